@@ -1,0 +1,11 @@
+//! The plain tree: labelled forests of elements and texts, and their edits.
+//!
+//! This is the plain program that the faster crates are compared with. Its definitions stand in
+//! `specs/`, on plain data, and say what every answer of the store means.
+#![tactic(auto)]
+
+mod plain;
+mod text;
+
+pub use plain::{Attribute, Attributes, Kind, Plain, Plains};
+pub use text::Text;
