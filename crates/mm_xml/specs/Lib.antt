@@ -1,0 +1,5 @@
+pub mod Grammar
+pub mod Reading
+pub mod Skimming
+pub mod Lexemes
+pub mod Builds
