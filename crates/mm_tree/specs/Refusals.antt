@@ -1,5 +1,5 @@
 -- The numbers and words of refusals.
-use Rattle.std.specs.Prelude.{ℕ, List, codes, ◌≡◌, refl}
+use Rattle.std.specs.Prelude.{ℕ, List, codes}
 use Rattle.mm_tree.specs.declared.refusal.Refusal.{Refusal}
 use Rattle.mm_tree.specs.declared.refusal.Refusal.TheVariants.{Command, Size, Readonly, Label, Words, Many, Long, Absent, Leaf, Xml, Top, Deep, Room, Full}
 
