@@ -130,3 +130,81 @@ span_utf8 (Run text) h = text_utf8 text h
 -- what is read is text, as a call asks
 pub found_is_utf8 : (bytes : List ℕ) (s : Span) (rest : List ℕ) → span_at bytes ≡ Some (s, rest) → IsUtf8 (held s)
 found_is_utf8 bytes s rest e = span_utf8 s (span_takes bytes (s, rest) e).is
+
+-- ---- what is spelled so is read
+
+names_len : (name : List ℕ) (b : ℕ) (rest : List ℕ) → list_all is_name_char name ≡ true → is_name_char b ≡ false → prefix_len is_name_char (name ++ b ∷ rest) ≡ length name
+names_len [] b rest h stop = rw stop refl
+names_len (c ∷ cs) b rest h stop =
+    let w = both (is_name_char c) (list_all is_name_char cs) h in
+    rw (w.0, names_len cs b rest w.1 stop) (omega arith)
+
+not_slash : (c : ℕ) → is_name_start c ≡ true → eqb c 47 ≡ false
+not_slash c h = elim (eqb c 47) as (λ b. eqb c 47 ≡ b → b ≡ false) [ true ↦ λ e. absurd (slash c (eqb-true c 47 e) h) | false ↦ λ e. refl ] refl
+ where
+  slash : (c : ℕ) → c ≡ 47 → is_name_start c ≡ true → ⊥
+  slash c e h = let k : is_name_start 47 ≡ true = subst (λ (n : ℕ). is_name_start n ≡ true) e h in cc
+
+no_slash : (name rest : List ℕ) → is_name name ≡ true → tag_at (name ++ rest) ≡ open_at (name ++ rest)
+no_slash [] rest h = absurd cc
+no_slash (c ∷ cs) rest h =
+    let w = both (is_name_start c && list_all is_name_char cs) (leb (length cs) 511) h in
+    let v = both (is_name_start c) (list_all is_name_char cs) w.0 in
+    rw (not_slash c v.0) refl
+
+name_again : (name : List ℕ) (b : ℕ) (rest : List ℕ) → is_name name ≡ true → is_name_char b ≡ false → name_at (name ++ b ∷ rest) ≡ (name, b ∷ rest)
+name_again name b rest h stop =
+    let len = names_len name b rest (name_chars name h) stop in
+    rw (len, take_at name (b ∷ rest) (length name) refl, drop_at name (b ∷ rest) (length name) refl) refl
+
+abbrev none_found : Found
+none_found = None
+
+open_again : (name : List ℕ) (b : ℕ) (rest : List ℕ) → is_name name ≡ true → is_name_char b ≡ false → tag_at (name ++ b ∷ rest) ≡ open_end_at name (b ∷ rest)
+unfolding open_at
+open_again name b rest h stop =
+    no_slash name (b ∷ rest) h ∙ ap (λ (x : List ℕ × List ℕ). cond (is_name x.0) (open_end_at x.0 x.1) none_found) (name_again name b rest h stop) ∙ rw h refl
+
+pub mark_again : (tag : Tag) (name rest : List ℕ) → is_name name ≡ true → span_at (spelled_tag tag name ++ rest) ≡ Some (Mark tag name, rest)
+unfolding span_at close_at
+mark_again Open name rest h = ap tag_at (append_assoc name (62 ∷ []) rest) ∙ open_again name 62 rest h refl
+mark_again Empty name rest h = ap tag_at (append_assoc name (47 ∷ 62 ∷ []) rest) ∙ open_again name 47 (62 ∷ rest) h refl
+mark_again Close name rest h = ap close_at (append_assoc name (62 ∷ []) rest) ∙ ap (λ (x : List ℕ × List ℕ). cond (is_name x.0) (end_at Close x.0 x.1) none_found) (name_again name 62 rest h refl) ∙ rw h refl
+
+text_len : (text rest : List ℕ) → list_all is_text_char text ≡ true → Stops rest → prefix_len is_text_char (text ++ rest) ≡ length text
+text_len [] [] h stop = refl
+text_len [] (b ∷ rest) h stop = rw stop refl
+text_len (c ∷ cs) rest h stop =
+    let w = both (is_text_char c) (list_all is_text_char cs) h in
+    rw (w.0, text_len cs rest w.1 stop) (omega arith)
+
+not_open : (c : ℕ) → is_text_char c ≡ true → eqb c 60 ≡ false
+not_open c h = elim (eqb c 60) as (λ b. eqb c 60 ≡ b → b ≡ false) [ true ↦ λ e. absurd (less c (eqb-true c 60 e) h) | false ↦ λ e. refl ] refl
+ where
+  less : (c : ℕ) → c ≡ 60 → is_text_char c ≡ true → ⊥
+  less c e h = let k : is_text_char 60 ≡ true = subst (λ (n : ℕ). is_text_char n ≡ true) e h in cc
+
+abbrev split_run : List ℕ → ℕ → Found
+split_run bytes n = cond (eqb n 0) None (Some (Run (take n bytes), drop n bytes))
+
+run_at_is : (bytes : List ℕ) → run_at bytes ≡ split_run bytes (prefix_len is_text_char bytes)
+unfolding run_at
+run_at_is bytes = refl
+
+split_again : (c : ℕ) (cs rest : List ℕ) → split_run ((c ∷ cs) ++ rest) (length (c ∷ cs)) ≡ Some (Run (c ∷ cs), rest)
+split_again c cs rest =
+    let run = c ∷ cs in
+    ap (λ b. cond b none_found (Some (Run (take (length run) (run ++ rest)), drop (length run) (run ++ rest)))) (above (length cs))
+    ∙ ap (λ (x : List ℕ × List ℕ). some (Run x.0, x.1)) (λ i. (take_at run rest (length run) refl i, drop_at run rest (length run) refl i))
+ where
+  above : (n : ℕ) → eqb (suc n) 0 ≡ false
+  above n = grind arith
+
+pub run_again : (c : ℕ) (cs rest : List ℕ) → list_all is_text_char (c ∷ cs) ≡ true → Stops rest → span_at ((c ∷ cs) ++ rest) ≡ Some (Run (c ∷ cs), rest)
+unfolding span_at
+run_again c cs rest h stop =
+    let w = both (is_text_char c) (list_all is_text_char cs) h in
+    ap (λ b. cond b (tag_at (cs ++ rest)) (run_at ((c ∷ cs) ++ rest))) (not_open c w.0)
+    ∙ run_at_is ((c ∷ cs) ++ rest)
+    ∙ ap (λ n. split_run ((c ∷ cs) ++ rest) n) (text_len (c ∷ cs) rest h stop)
+    ∙ split_again c cs rest
