@@ -53,9 +53,9 @@ not_over name names d = ap (λ b. b && not (eqb d 0)) (not_none (length names))
 
 over_after : (t : Tree Kind) → is_over (skimmed [] (levels (one t))) ≡ true
 over_after t = ap (λ b. not b) (tall (levels (one t)) (omega arith))
- where
-  tall : (n : ℕ) → 1 ≤ n → eqb n 0 ≡ false
-  tall n le = grind (arith, nat_tests)
+  where
+    tall : (n : ℕ) → 1 ≤ n → eqb n 0 ≡ false
+    tall n le = grind (arith, nat_tests)
 
 same : (name : List ℕ) → bytes_eq name name ≡ true
 same name = (bytes_eq-Decides name name).1 refl

@@ -5,3 +5,4 @@ pub mod Machine
 pub mod Runs
 pub mod Whole
 pub mod Levels
+pub mod Answered

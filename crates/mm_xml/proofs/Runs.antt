@@ -108,9 +108,9 @@ pub no_char_here : (ts : List Token) (rest : List ℕ) → AreTokens ts → rest
 no_char_here [] rest each e h = tt
 no_char_here (Char c ∷ ts) rest each e h =
     clash c (subst Stops (e ∙ ap (λ (r : List ℕ). r ++ flat_map spelled ts) (char_same c each.0)) h) each.0
- where
-  clash : (c : ℕ) → is_text_char c ≡ false → is_text_char c ≡ true → ⊥
-  clash c fails passes = let both_ways : false ≡ true = sym fails ∙ passes in cc
+  where
+    clash : (c : ℕ) → is_text_char c ≡ false → is_text_char c ≡ true → ⊥
+    clash c fails passes = let both_ways : false ≡ true = sym fails ∙ passes in cc
 no_char_here (Tagged tag name ∷ ts) rest each e h = tt
 
 -- ---- where a span leads

@@ -141,9 +141,9 @@ names_len (c ∷ cs) b rest h stop =
 
 not_slash : (c : ℕ) → is_name_start c ≡ true → eqb c 47 ≡ false
 not_slash c h = elim (eqb c 47) as (λ b. eqb c 47 ≡ b → b ≡ false) [ true ↦ λ e. absurd (slash c (eqb-true c 47 e) h) | false ↦ λ e. refl ] refl
- where
-  slash : (c : ℕ) → c ≡ 47 → is_name_start c ≡ true → ⊥
-  slash c e h = let k : is_name_start 47 ≡ true = subst (λ (n : ℕ). is_name_start n ≡ true) e h in cc
+  where
+    slash : (c : ℕ) → c ≡ 47 → is_name_start c ≡ true → ⊥
+    slash c e h = let k : is_name_start 47 ≡ true = subst (λ (n : ℕ). is_name_start n ≡ true) e h in cc
 
 no_slash : (name rest : List ℕ) → is_name name ≡ true → tag_at (name ++ rest) ≡ open_at (name ++ rest)
 no_slash [] rest h = absurd cc
@@ -180,9 +180,9 @@ text_len (c ∷ cs) rest h stop =
 
 not_open : (c : ℕ) → is_text_char c ≡ true → eqb c 60 ≡ false
 not_open c h = elim (eqb c 60) as (λ b. eqb c 60 ≡ b → b ≡ false) [ true ↦ λ e. absurd (less c (eqb-true c 60 e) h) | false ↦ λ e. refl ] refl
- where
-  less : (c : ℕ) → c ≡ 60 → is_text_char c ≡ true → ⊥
-  less c e h = let k : is_text_char 60 ≡ true = subst (λ (n : ℕ). is_text_char n ≡ true) e h in cc
+  where
+    less : (c : ℕ) → c ≡ 60 → is_text_char c ≡ true → ⊥
+    less c e h = let k : is_text_char 60 ≡ true = subst (λ (n : ℕ). is_text_char n ≡ true) e h in cc
 
 abbrev split_run : List ℕ → ℕ → Found
 split_run bytes n = cond (eqb n 0) None (Some (Run (take n bytes), drop n bytes))
@@ -196,9 +196,9 @@ split_again c cs rest =
     let run = c ∷ cs in
     ap (λ b. cond b none_found (Some (Run (take (length run) (run ++ rest)), drop (length run) (run ++ rest)))) (above (length cs))
     ∙ ap (λ (x : List ℕ × List ℕ). some (Run x.0, x.1)) (λ i. (take_at run rest (length run) refl i, drop_at run rest (length run) refl i))
- where
-  above : (n : ℕ) → eqb (suc n) 0 ≡ false
-  above n = grind arith
+  where
+    above : (n : ℕ) → eqb (suc n) 0 ≡ false
+    above n = grind arith
 
 pub run_again : (c : ℕ) (cs rest : List ℕ) → list_all is_text_char (c ∷ cs) ≡ true → Stops rest → span_at ((c ∷ cs) ++ rest) ≡ Some (Run (c ∷ cs), rest)
 unfolding span_at

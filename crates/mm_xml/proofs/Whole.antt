@@ -53,11 +53,11 @@ read_run (Inside f fs) s' text bytes rest t is longest parts moved more =
       spelled_so = parts ∙ ap (λ (r : List ℕ). text ++ r) more.spelled_so ∙ sym (run_spelled text ts is);
       bare = run_bare (length fs) text ts (subst (λ (d : ℕ). IsBareOutside d ts) (deep f fs text s' moved) more.bare);
       builds = ap (λ ps. build (Inside f fs) ps) (run_brackets text [] ts ∙ parted text ts (no_char_here ts rest more.each more.spelled_so longest))
-        ∙ build_append (Inside f fs) s' (text_brackets text) (brackets [] ts) (text_lands f fs text is ∙ moved) ∙ more.builds;
+          ∙ build_append (Inside f fs) s' (text_brackets text) (brackets [] ts) (text_lands f fs text is ∙ moved) ∙ more.builds;
     }
- where
-  deep : (f : Frame) (fs : List Frame) (text : List ℕ) (s' : State) → text_step (Inside f fs) text ≡ Some s' → depth_of s' ≡ suc (length fs)
-  deep f fs text s' moved = subst (λ o. IsDeep o (suc (length fs))) moved refl
+  where
+    deep : (f : Frame) (fs : List Frame) (text : List ℕ) (s' : State) → text_step (Inside f fs) text ≡ Some s' → depth_of s' ≡ suc (length fs)
+    deep f fs text s' moved = subst (λ o. IsDeep o (suc (length fs))) moved refl
 
 read_span : (s s' : State) (span : Span) (bytes rest : List ℕ) (t : Tree Kind) → Takes bytes (span, rest) → span_step s span ≡ Some s' → ReadAs s' rest t → ReadAs s bytes t
 read_span s s' (Mark tag name) bytes rest t takes moved more = read_mark s s' tag name bytes rest t takes.is takes.parts moved more
@@ -75,13 +75,15 @@ read_sound (suc n) s (b ∷ bytes) t e =
 pub read_spells : (bytes : List ℕ) (t : Tree Kind) → read_all bytes ≡ Some t → Spells bytes t
 unfolding read_all
 read_spells bytes t e =
-    let r = read_sound (length bytes) Before bytes t e in
-    (r.tokens, record {
-      each = r.each;
-      spelled_so = r.spelled_so;
-      bare = r.bare;
-      tree_is = build_sound (brackets [] r.tokens) t r.builds;
-    })
+    let r = read_sound (length bytes) Before bytes t e in (
+      r.tokens,
+      record {
+        each = r.each;
+        spelled_so = r.spelled_so;
+        bare = r.bare;
+        tree_is = build_sound (brackets [] r.tokens) t r.builds;
+      },
+    )
 
 -- ---- what is spelled so is read
 
@@ -134,7 +136,7 @@ read_again (suc n) (Tagged tag name ∷ ts) s each bare le =
     ap (λ (m : List ℕ). read_from (suc n) s (spelled_tag tag m ++ rest)) same
     ∙ read_step n s (spelled_tag tag name ++ rest) 60 f.0 (Mark tag name) rest f.1 (mark_again tag name rest each.0)
     ∙ then_read (place_all s (tag_brackets tag name)) n rest (brackets [] ts)
-        (λ s' moved. read_again n ts s' each.1 (subst (λ (d : ℕ). IsBareOutside d ts) (sym (subst (λ o. IsDeep o (depth_after tag (depth_of s))) moved (tag_leads s tag name))) (bare_tag tag name (depth_of s) ts bare)) shorter)
+    (λ s' moved. read_again n ts s' each.1 (subst (λ (d : ℕ). IsBareOutside d ts) (sym (subst (λ o. IsDeep o (depth_after tag (depth_of s))) moved (tag_leads s tag name))) (bare_tag tag name (depth_of s) ts bare)) shorter)
     ∙ ap (λ o. o >>= finished) (sym (place_all_append s (tag_brackets tag name) (brackets [] ts)))
     ∙ ap (λ (m : List ℕ). build s (tag_brackets tag m ++ brackets [] ts)) (sym same)
 

@@ -29,9 +29,10 @@ state_of s = state_at (frames_of s.frames.items) s.whole
 abbrev pub outline_of : Outline → Skimmed
 outline_of o = skimmed (map (λ name. name.now) (reverse o.names.items)) o.deepest
 
+-- there is no such move, or memory ran out
 abbrev pub Refuses : {X : Type 0} → XmlError → Option X → Type 0
 Refuses error.NotXml moved = moved ≡ None
-Refuses error.TooDeep moved = moved ≡ None
+Refuses error.TooDeep moved = ⊥
 Refuses error.Memory moved = Unit {0}
 
 -- the state is the one to move to, where there is one, unless memory ran out
