@@ -1,2 +1,4 @@
 pub mod Trees
 pub mod Characters
+pub mod Validity
+pub mod Refusals

@@ -5,7 +5,9 @@
 #![tactic(auto)]
 
 mod plain;
+mod refusal;
 mod text;
 
 pub use plain::{Attribute, Attributes, Kind, Plain, Plains};
+pub use refusal::{Refusal, TreeError};
 pub use text::Text;

@@ -47,7 +47,7 @@ module _ (R S : RattleType) (h : R.Denot → S.Denot) where
       (invariant R.Denot) (invariant S.Denot) (λ u p q. refl) (λ u p q. refl) (λ u e. tt) (λ u e. tt)
       (over (inside.the_row R)) (over (inside.the_row S))
       (struct_places (inside.the_type R) (inside.the_type S) (std_vec.mapped h, tt) _ (λ d. refl) refl
-        (laid _ _ _ (std_vec.the_places global.the_row ghosts R S h alike), tt))
+      (laid _ _ _ (std_vec.the_places global.the_row ghosts R S h alike), tt))
 
   pub the_codes_placed : Recodes R S h → Recodes (outside.the_row R) (outside.the_row S) ((the_former this).map R.Denot S.Denot h)
   the_codes_placed same d = sym (code_map R.coded.code S.coded.code h (λ x. sym (same x)) d)
