@@ -12,7 +12,7 @@ use Rattle.mm_xml.specs.declared.error.XmlError.{XmlError}
 use Rattle.mm_xml.specs.declared.error.XmlError.TheVariants as error
 
 abbrev pub frame_of : Opened → Frame
-frame_of f = record { kind = f.kind; before = map tree_of f.children }
+frame_of f = record { kind = f.kind; before = map tree_of f.children.items }
 
 -- the innermost first
 abbrev pub frames_of : List Opened → List Frame
