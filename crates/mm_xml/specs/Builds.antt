@@ -12,7 +12,7 @@ use Rattle.mm_xml.specs.declared.error.XmlError.{XmlError}
 use Rattle.mm_xml.specs.declared.error.XmlError.TheVariants as error
 
 abbrev pub frame_of : Opened → Frame
-frame_of f = record { kind = f.kind; before = map tree_of f.children }
+frame_of f = record { kind = f.kind; before = map tree_of f.children.items }
 
 -- the innermost first
 abbrev pub frames_of : List Opened → List Frame
@@ -29,9 +29,10 @@ state_of s = state_at (frames_of s.frames.items) s.whole
 abbrev pub outline_of : Outline → Skimmed
 outline_of o = skimmed (map (λ name. name.now) (reverse o.names.items)) o.deepest
 
+-- there is no such move, or memory ran out
 abbrev pub Refuses : {X : Type 0} → XmlError → Option X → Type 0
 Refuses error.NotXml moved = moved ≡ None
-Refuses error.TooDeep moved = moved ≡ None
+Refuses error.TooDeep moved = ⊥
 Refuses error.Memory moved = Unit {0}
 
 -- the state is the one to move to, where there is one, unless memory ran out

@@ -3,3 +3,4 @@ pub mod Reading
 pub mod Skimming
 pub mod Lexemes
 pub mod Builds
+pub mod Answers

@@ -1,5 +1,5 @@
 -- Reading from left to right, on bytes: a tag at a time, or all the text up to the next tag.
-use Rattle.std.specs.Prelude.{ℕ, zero, suc, ◌≡◌, List, [], ◌∷◌, ◌++◌, length, take, drop, Bool, ◌==◌, Option, Some, None, if◌then◌else◌}
+use Rattle.std.specs.Prelude.{ℕ, zero, suc, ◌≡◌, List, [], ◌∷◌, ◌++◌, length, take, drop, Bool, false, ◌==◌, ◌&&◌, nat_le, Option, Some, None, if◌then◌else◌}
 use Rattle.std.specs.List.{list_all, prefix_len}
 use Rattle.std.specs.Str.{bytes_eq}
 use Rattle.mm_tree.specs.declared.Kind.{Kind}
@@ -8,7 +8,7 @@ use Rattle.mm_tree.specs.Characters.{is_space}
 use Rattle.mm_tree.specs.Trees.{Trees, none, node, Tree, siblings}
 use Rattle.mm_xml.specs.declared.token.Tag.{Tag}
 use Rattle.mm_xml.specs.declared.token.Tag.TheVariants.{Open, Empty, Close}
-use Rattle.mm_xml.specs.Grammar.{Bracket, Begin, End, is_name, is_name_char, is_text_char, name_of, tag_brackets}
+use Rattle.mm_xml.specs.Grammar.{Bracket, Begin, End, is_name_start, is_name_char, is_text_char, name_of, tag_brackets}
 
 infixl 10 ◌>>=◌
 abbrev pub ◌>>=◌ : {A B : Type 0} → Option A → (A → Option B) → Option B
@@ -30,6 +30,11 @@ Found = Option (Span × List ℕ)
 abbrev pub name_at : List ℕ → List ℕ × List ℕ
 name_at bytes = let n = prefix_len is_name_char bytes in (take n bytes, drop n bytes)
 
+-- of name bytes: whether they begin as a name does, and are few enough
+abbrev pub fits_name : List ℕ → Bool
+fits_name [] = false
+fits_name (c ∷ cs) = is_name_start c && nat_le (length cs) 511
+
 abbrev pub end_at : Tag → List ℕ → List ℕ → Found
 end_at tag name [] = None
 end_at tag name (b ∷ rest) = if b == 62 then Some (Mark tag name, rest) else None
@@ -39,10 +44,10 @@ open_end_at name [] = None
 open_end_at name (b ∷ rest) = if b == 47 then end_at Empty name rest else end_at Open name (b ∷ rest)
 
 unfoldable pub close_at : List ℕ → Found
-close_at bytes = if is_name (name_at bytes).0 then end_at Close (name_at bytes).0 (name_at bytes).1 else None
+close_at bytes = if fits_name (name_at bytes).0 then end_at Close (name_at bytes).0 (name_at bytes).1 else None
 
 unfoldable pub open_at : List ℕ → Found
-open_at bytes = if is_name (name_at bytes).0 then open_end_at (name_at bytes).0 (name_at bytes).1 else None
+open_at bytes = if fits_name (name_at bytes).0 then open_end_at (name_at bytes).0 (name_at bytes).1 else None
 
 -- what stands behind a `<`
 abbrev pub tag_at : List ℕ → Found

@@ -1,6 +1,10 @@
-ghost use Rattle.std.specs.Prelude.{◌≡◌};
+ghost use Rattle.std.specs.Prelude.{◌≡◌, IfOk, IsErrOf};
+ghost use Rattle.mm_tree.specs.declared.Kind.{Kind};
+ghost use Rattle.mm_tree.specs.Trees.{Tree, tree_of};
+ghost use Rattle.mm_xml.specs.Grammar.{Spells};
 ghost use Rattle.mm_xml.specs.Reading.{read_all};
 ghost use Rattle.mm_xml.specs.Builds.{state_of, Gives};
+ghost use Rattle.mm_xml.specs.Answers.{IsShallow, IsTooDeep, AnswersFor};
 
 use crate::error::XmlError;
 use crate::outline::level_count;
@@ -9,7 +13,7 @@ use crate::token::next_lexeme;
 use mm_tree::Plain;
 use std::alloc::Global;
 
-/// The most levels that a tree may have.
+/// The most levels that a tree may have to be given.
 const MOST_LEVELS: usize = 200;
 
 /// The tree of the bytes, however many levels it has.
@@ -34,8 +38,17 @@ fn whole_tree(alloc: Global, bytes: &[u8]) -> Result<Plain, XmlError>
     stack.finish().ok_or(XmlError::NotXml)
 }
 
-/// The one tree that the bytes spell.
-pub fn read(alloc: Global, bytes: &[u8]) -> Result<Plain, XmlError> {
+/// The one tree that the bytes spell, if it has at most 200 levels. A text counts as a level.
+pub fn read(alloc: Global, bytes: &[u8]) -> Result<Plain, XmlError>
+    // What is given is a tree that the bytes spell, and not too deep.
+    ensures found { IfOk result (λ p. Spells bytes.now (tree_of p) × IsShallow (tree_of p)) }
+    // Whatever tree the bytes spell is given, unless it is too deep or memory runs out.
+    ensures only { (t : Tree Kind) → Spells bytes.now t → AnswersFor result t }
+    // Bytes that are no XML spell no tree.
+    ensures none { IsErrOf result XmlError.NotXml → (t : Tree Kind) → ¬ Spells bytes.now t }
+    // Bytes that are too deep spell a tree of more levels.
+    ensures deep { IsErrOf result XmlError.TooDeep → (t : Tree Kind) × Spells bytes.now t × IsTooDeep t }
+{
     // The levels are counted first, since a tree that is too deep is never built.
     if level_count(alloc, bytes)? > MOST_LEVELS {
         return Err(XmlError::TooDeep);

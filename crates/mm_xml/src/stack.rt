@@ -1,4 +1,4 @@
-ghost use Rattle.std.specs.Prelude.{◌≡◌, IfOk, Some};
+ghost use Rattle.std.specs.Prelude.{◌≡◌, [], IfOk, Some};
 ghost use Rattle.std.specs.Str.{bytes_eq, IsUtf8};
 ghost use Rattle.mm_tree.specs.Trees.{tree_of};
 ghost use Rattle.mm_xml.specs.Grammar.{Begin, End, name_of, tag_brackets};
@@ -17,14 +17,16 @@ use std::alloc::{AllocError, Global};
 #[derive(Drop)]
 pub struct Opened {
     pub kind: Kind,
-    pub children: Items<Plain>,
+    pub children: Vec<Plain>,
 }
 
-/// The elements that are open, the innermost last, or the tree that was closed.
+/// The elements that are open, the innermost last, or the tree that was closed. Children grow in lists
+/// that are used again, so that those of the tree are no longer than they have to be.
 #[derive(Drop)]
 pub struct Stack {
     pub frames: Vec<Opened>,
     pub whole: Option<Plain>,
+    pub spare: Vec<Vec<Plain>>,
 }
 
 /// A copy of bytes as a text.
@@ -38,6 +40,19 @@ fn text_of(alloc: Global, bytes: &[u8]) -> Result<Text, AllocError>
     }
 }
 
+/// The list, without what it holds, or a new one.
+fn empty_list(alloc: Global, list: Option<Vec<Plain>>) -> Vec<Plain>
+    ensures { result.items ≡ [] }
+{
+    match list {
+        Some(mut list) => {
+            list.clear();
+            list
+        }
+        None => Vec::new(alloc),
+    }
+}
+
 impl Opened {
     fn has_name(&self, name: &[u8]) -> bool
         ensures { result ≡ bytes_eq name.now (name_of self.now.kind) }
@@ -48,11 +63,19 @@ impl Opened {
         }
     }
 
-    fn into_tree(self) -> Plain
-        ensures { tree_of result ≡ frame_tree (frame_of self) }
+    /// The element whole, with the list in which its children grew.
+    fn into_tree(self, alloc: Global) -> Result<(Plain, Vec<Plain>), AllocError>
+        ensures { IfOk result (λ r. tree_of r.0 ≡ frame_tree (frame_of self)) }
     {
         let Opened { kind, children } = self;
-        Plain { kind, children }
+        let mut grown = children;
+        let mut children = Vec::with_capacity(alloc, grown.len())?;
+        children.append(&mut grown)?;
+        let tree = Plain {
+            kind,
+            children: Items::from_vec(children),
+        };
+        Ok((tree, grown))
     }
 }
 
@@ -63,6 +86,7 @@ impl Stack {
         Stack {
             frames: Vec::new(alloc),
             whole: None,
+            spare: Vec::new(alloc),
         }
     }
 
@@ -72,14 +96,12 @@ impl Stack {
         if self.frames.is_empty() && self.whole.is_some() {
             return Err(XmlError::NotXml);
         }
-        self.frames.push(Opened {
-            kind,
-            children: Items::new(alloc),
-        })?;
+        let children = empty_list(alloc, self.spare.pop());
+        self.frames.push(Opened { kind, children })?;
         Ok(())
     }
 
-    fn end(&mut self, name: &[u8]) -> Result<(), XmlError>
+    fn end(&mut self, alloc: Global, name: &[u8]) -> Result<(), XmlError>
         ensures { Moves result (state_of self.new) (place (state_of self.old) (End name.now)) }
     {
         let Some(top) = self.frames.pop() else {
@@ -88,7 +110,9 @@ impl Stack {
         if !top.has_name(name) {
             return Err(XmlError::NotXml);
         }
-        self.close(top.into_tree())
+        let (tree, grown) = top.into_tree(alloc)?;
+        self.spare.push(grown)?;
+        self.close(tree)
     }
 
     /// Puts a tree that is whole into its place.
@@ -149,9 +173,9 @@ impl Stack {
             Tag::Open => self.open(alloc, name),
             Tag::Empty => {
                 self.open(alloc, name)?;
-                self.end(name)
+                self.end(alloc, name)
             }
-            Tag::Close => self.end(name),
+            Tag::Close => self.end(alloc, name),
         }
     }
 

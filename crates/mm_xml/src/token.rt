@@ -1,8 +1,8 @@
 ghost use Rattle.std.specs.Prelude.{◌≡◌, ◌≤◌, length};
-ghost use Rattle.std.specs.List.{list_all, prefix_len};
+ghost use Rattle.std.specs.List.{prefix_len};
 ghost use Rattle.mm_tree.specs.Characters.{between as between_is};
-ghost use Rattle.mm_xml.specs.Grammar.{is_name as name_is, is_name_start as name_start_is, is_name_char as name_char_is, is_text_char as text_char_is};
-ghost use Rattle.mm_xml.specs.Reading.{name_at, end_at, open_end_at, close_at, open_at, tag_at, run_at, span_at};
+ghost use Rattle.mm_xml.specs.Grammar.{is_name_start as name_start_is, is_name_char as name_char_is, is_text_char as text_char_is};
+ghost use Rattle.mm_xml.specs.Reading.{fits_name as name_fits, name_at, end_at, open_end_at, close_at, open_at, tag_at, run_at, span_at};
 ghost use Rattle.mm_xml.specs.Lexemes.{Finds};
 
 /// The tag before an element, the tag of an element without content, the tag behind one.
@@ -46,18 +46,13 @@ fn is_text_char(c: u8) -> bool
         || (between(b' ', b'~', c) && c != b'<' && c != b'>' && c != b'&' && c != b']')
 }
 
-fn are_name_chars(bytes: &[u8]) -> bool
-    ensures { result ≡ list_all name_char_is bytes.now }
-{
-    bytes.iter().all(|b| is_name_char(*b))
-}
-
-fn is_name(name: &[u8]) -> bool
-    ensures { result ≡ name_is name.now }
+/// Of the bytes of a name: whether they begin as a name does, and are few enough.
+fn fits_name(name: &[u8]) -> bool
+    ensures { result ≡ name_fits name.now }
 {
     match name {
         [] => false,
-        [c, rest @ ..] => is_name_start(*c) && are_name_chars(rest) && rest.len() <= 511,
+        [c, rest @ ..] => is_name_start(*c) && rest.len() <= 511,
     }
 }
 
@@ -106,7 +101,7 @@ fn close_of(bytes: &[u8]) -> Option<(Lexeme<'_>, &[u8])>
     ensures { Finds result (close_at bytes.now) }
 {
     let (name, rest) = name_of(bytes);
-    if is_name(name) {
+    if fits_name(name) {
         end_of(Tag::Close, name, rest)
     } else {
         None
@@ -118,7 +113,7 @@ fn open_of(bytes: &[u8]) -> Option<(Lexeme<'_>, &[u8])>
     ensures { Finds result (open_at bytes.now) }
 {
     let (name, rest) = name_of(bytes);
-    if is_name(name) {
+    if fits_name(name) {
         open_end_of(name, rest)
     } else {
         None
