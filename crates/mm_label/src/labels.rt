@@ -12,7 +12,7 @@ ghost use Rattle.mm_label.specs.Answers.{RefusesLabel, RefusesText, front_of};
 use crate::component::components;
 use crate::decimal::{read, text_of};
 use crate::error::LabelError;
-use crate::spelling::{WIDEST, push_spelled};
+use crate::spelling::{MOST_BYTES, WIDEST, push_spelled};
 use crate::walk::{common_length, is_label, odd_count, segment_start};
 use std::alloc::{AllocError, Global};
 use std::cmp::Ordering;
@@ -204,9 +204,11 @@ pub fn child(alloc: Global, parent: Option<&Label>, segment: &[i64]) -> Result<L
     let mut bytes = Vec::with_capacity(alloc, front.len() + WIDEST)?;
     bytes.extend_from_slice(front)?;
     push_spelled(&mut bytes, segment)?;
-    let length = bytes.len() as u64;
-    if length > 512 {
-        return Err(LabelError::Full { length });
+    let length = bytes.len();
+    if length > MOST_BYTES {
+        return Err(LabelError::Full {
+            length: length as u64,
+        });
     }
     Ok(Label { bytes })
 }

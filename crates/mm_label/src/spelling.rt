@@ -5,6 +5,9 @@ ghost use Rattle.mm_label.specs.Label.{all_in_range};
 use crate::component::rank;
 use std::alloc::AllocError;
 
+/// The most bytes that a label has.
+pub const MOST_BYTES: usize = 512;
+
 /// The bytes of the widest component.
 pub const WIDEST: usize = 5;
 
