@@ -12,7 +12,7 @@ ghost use Rattle.mm_label.specs.Answers.{RefusesLabel, RefusesText, front_of};
 use crate::component::components;
 use crate::decimal::{read, text_of};
 use crate::error::LabelError;
-use crate::spelling::push_spelled;
+use crate::spelling::{MOST_BYTES, WIDEST, push_spelled};
 use crate::walk::{common_length, is_label, odd_count, segment_start};
 use std::alloc::{AllocError, Global};
 use std::cmp::Ordering;
@@ -181,16 +181,16 @@ impl Ord for Label {
     }
 }
 
-/// The bytes before the segment.
-fn front_bytes(alloc: Global, parent: Option<&Label>) -> Result<Vec<u8>, AllocError>
-    ensures value { IfOk result (λ v. v.items ≡ bytes_of (front_of (option_map (λ p. p.now) parent.entry))) }
+/// The bytes before the segment: the parent's, or none.
+fn front_bytes(parent: Option<&Label>) -> &[u8]
+    ensures value { result.now ≡ bytes_of (front_of (option_map (λ p. p.now) parent.entry)) }
     ensures in_range { IsTrue (all_in_range (front_of (option_map (λ p. p.now) parent.entry))) }
+    ensures short { length result.now ≤ 512 }
 {
-    let mut bytes = Vec::new(alloc);
-    if let Some(label) = parent {
-        bytes.extend_from_slice(label.as_bytes())?;
+    match parent {
+        Some(label) => label.as_bytes(),
+        None => &[],
     }
-    Ok(bytes)
 }
 
 /// The label below the parent whose last segment this is; without a parent, the label of level 1.
@@ -200,11 +200,15 @@ pub fn child(alloc: Global, parent: Option<&Label>, segment: &[i64]) -> Result<L
     ensures label { IfOk result IsLabel }
     ensures refused { IfErr result (λ e. RefusesLabel e (front_of (option_map (λ p. p.now) parent.entry) ++ segment.now)) }
 {
-    let mut bytes = front_bytes(alloc, parent)?;
+    let front = front_bytes(parent);
+    let mut bytes = Vec::with_capacity(alloc, front.len() + WIDEST)?;
+    bytes.extend_from_slice(front)?;
     push_spelled(&mut bytes, segment)?;
-    let length = bytes.len() as u64;
-    if length > 512 {
-        return Err(LabelError::Full { length });
+    let length = bytes.len();
+    if length > MOST_BYTES {
+        return Err(LabelError::Full {
+            length: length as u64,
+        });
     }
     Ok(Label { bytes })
 }

@@ -5,6 +5,12 @@ ghost use Rattle.mm_label.specs.Label.{all_in_range};
 use crate::component::rank;
 use std::alloc::AllocError;
 
+/// The most bytes that a label has.
+pub const MOST_BYTES: usize = 512;
+
+/// The bytes of the widest component.
+pub const WIDEST: usize = 5;
+
 fn push_one(out: &mut Vec<u8>, first: u64, n: u64) -> Result<(), AllocError>
     requires n { n < 128 }
     requires first { first < 128 }
