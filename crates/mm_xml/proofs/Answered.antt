@@ -51,29 +51,22 @@ reads_uncounted error.NotXml bytes c = reads_none bytes (not_there (read_all byt
 reads_uncounted error.TooDeep bytes c = absurd c
 reads_uncounted error.Memory bytes c = reads_nothing bytes
 
--- too many levels were counted
-pub reads_deep : (bytes : List ℕ) (n : ℕ) → skim_all bytes ≡ Some n → most_levels < n → Reads (Err error.TooDeep) bytes
+-- a level too many was met, and the bytes spell a tree
+pub reads_deep : (bytes : List ℕ) (n : ℕ) → skim_all bytes ≡ Some n → Gives (Err error.TooDeep) (read_all bytes) → Reads (Err error.TooDeep) bytes
 reads_deep bytes n e more =
     let c = counted bytes n e in
-    let deep : IsTooDeep c.0 = omega (arith, c.2) in
     record {
       found = tt;
-      only = λ t h. subst IsTooDeep (same_tree bytes c.0 t c.1 h) deep;
+      only = λ t h. more t (spelled_read bytes t h);
       none = λ is. absurd cc;
-      deep = λ is. (c.0, read_spells bytes c.0 c.1, deep);
+      deep = λ is. (c.0, read_spells bytes c.0 c.1, more c.0 c.1);
     }
 
--- few enough levels were counted, and the tree was read
-pub reads_shallow : (r : Result Plain XmlError) (bytes : List ℕ) (n : ℕ) → skim_all bytes ≡ Some n → n ≤ most_levels → Gives r (read_all bytes) → Reads r bytes
-reads_shallow (Ok p) bytes n e few g =
-    let c = counted bytes n e in
-    let shallow : IsShallow (tree_of p) = subst IsShallow (same_tree bytes c.0 (tree_of p) c.1 (read_spells bytes (tree_of p) g)) (omega (arith, c.2, few)) in
-    record {
-      found = (read_spells bytes (tree_of p) g, shallow);
-      only = λ t h. (same_tree bytes (tree_of p) t g h, subst IsShallow (same_tree bytes (tree_of p) t g h) shallow);
-      none = λ is. absurd cc;
-      deep = λ is. absurd cc;
-    }
-reads_shallow (Err error.NotXml) bytes n e few g = reads_none bytes g
-reads_shallow (Err error.TooDeep) bytes n e few g = absurd g
-reads_shallow (Err error.Memory) bytes n e few g = reads_nothing bytes
+-- the tree was read
+pub reads_tree : (p : Plain) (bytes : List ℕ) → Gives (Ok p) (read_all bytes) → Reads (Ok p) bytes
+reads_tree p bytes g = record {
+  found = (read_spells bytes (tree_of p) g.0, g.1);
+  only = λ t h. let same = same_tree bytes (tree_of p) t g.0 h in (same, subst IsShallow same g.1);
+  none = λ is. absurd cc;
+  deep = λ is. absurd cc;
+}
