@@ -6,3 +6,4 @@ pub mod Runs
 pub mod Whole
 pub mod Levels
 pub mod Answered
+pub mod Productions
