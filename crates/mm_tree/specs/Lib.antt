@@ -2,3 +2,5 @@ pub mod Trees
 pub mod Characters
 pub mod Validity
 pub mod Refusals
+pub mod Numbering
+pub mod Forests

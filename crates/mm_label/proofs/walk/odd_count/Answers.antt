@@ -2,7 +2,7 @@ use Rattle.std.proofs.lemmas.Int.{to_z-of_z}
 use Rattle.std.proofs.Common.{ap, ◌∙◌, w64, rules, arith, refl, ◌+◌, true, false}
 use Rattle.mm_label.specs.Label.{is_odd}
 use Rattle.mm_label.proofs.HeldFacts.{counted_none, counted_more, counted_bound, counted_all}
-use Rattle.mm_label.proofs.labels.odd_count.Goals as goal
+use Rattle.mm_label.proofs.walk.odd_count.Goals as goal
 
 pub loop-c-init : goal.loop-c-init
 loop-c-init c = counted_none c.args.bytes.now

@@ -2,8 +2,8 @@ use Rattle.std.proofs.Common.{arith, ap, sym, ◌∙◌, subst, w64, rules, ℕ}
 use Rattle.std.proofs.lemmas.Int.{to_z-of_z}
 use Rattle.mm_label.specs.Label.{is_odd}
 use Rattle.mm_label.proofs.HeldFacts.{Cutting, cutting_none, cutting_even, cutting_odd, cutting_all, rest_fits}
-use Rattle.mm_label.proofs.labels.segment_start.Goals as goal
-use Rattle.mm_label.proofs.labels.segment_start.Goals.{then-odd, else-odd}
+use Rattle.mm_label.proofs.walk.segment_start.Goals as goal
+use Rattle.mm_label.proofs.walk.segment_start.Goals.{then-odd, else-odd}
 
 pub loop-c-init : goal.loop-c-init
 loop-c-init c = cutting_none c.args.bytes.now

@@ -2,7 +2,7 @@ use Rattle.std.proofs.lemmas.Int.{to_z-of_z}
 use Rattle.std.proofs.Common.{arith, ap, ◌∙◌, w64, rules}
 use Rattle.mm_label.specs.Label.{is_odd}
 use Rattle.mm_label.proofs.HeldFacts.{none_left, some_left, ends, stops, spells_more, rest_bytes}
-use Rattle.mm_label.proofs.labels.is_label.Goals as goal
+use Rattle.mm_label.proofs.walk.is_label.Goals as goal
 
 pub loop-rest-preserved : goal.loop-rest-preserved
 loop-rest-preserved c =
