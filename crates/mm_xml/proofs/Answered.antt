@@ -1,6 +1,6 @@
 -- What the reader answers, from the levels that were counted and the tree that was read.
-use Rattle.std.proofs.Common.{◌≡◌, ℕ, ◌<◌, ◌≤◌, List, Option, Some, None, refl, sym, ap, subst, ◌∙◌, arith}
-use Rattle.std.specs.Prelude.{IfOk, IsErrOf, Result, Ok, Err}
+use Rattle.std.proofs.Common.{◌≡◌, ℕ, ◌^◌, ◌<◌, List, length, Option, Some, None, refl, sym, ap, subst, ◌∙◌, arith}
+use Rattle.std.specs.Prelude.{IfOk, IsErrOf, IsTrue, Result, Ok, Err}
 use Rattle.mm_tree.specs.declared.Kind.{Kind}
 use Rattle.mm_tree.specs.declared.Plain.{Plain}
 use Rattle.mm_tree.specs.Trees.{Tree, one, levels, tree_of}
@@ -12,6 +12,8 @@ use Rattle.mm_xml.specs.Skimming.{skim_all}
 use Rattle.mm_xml.specs.Builds.{Gives, Counts, Refuses}
 use Rattle.mm_xml.specs.Answers.{most_levels, IsShallow, IsTooDeep, AnswersFor}
 use Rattle.mm_xml.proofs.Options.{bind_some, some_is}
+use Rattle.mm_tree.specs.Validity.{is_valid_tree}
+use Rattle.mm_xml.proofs.Valid.{spelled_valid}
 use Rattle.mm_xml.proofs.Whole.{read_spells, spelled_read}
 use Rattle.mm_xml.proofs.Levels.{level_count_of, skimmed_levels}
 
@@ -21,6 +23,7 @@ pub record Reads (r : Result Plain XmlError) (bytes : List ℕ) : Type 0 where
   pub only : (t : Tree Kind) → Spells bytes t → AnswersFor r t
   pub none : IsErrOf r error.NotXml → (t : Tree Kind) → ¬ Spells bytes t
   pub deep : IsErrOf r error.TooDeep → (t : Tree Kind) × Spells bytes t × IsTooDeep t
+  pub valid : length bytes < 2 ^ 32 → IfOk r (λ p. IsTrue (is_valid_tree (tree_of p)))
 
 counted : (bytes : List ℕ) (n : ℕ) → skim_all bytes ≡ Some n → (t : Tree Kind) × (read_all bytes ≡ Some t) × (levels (one t) ≡ n)
 counted bytes n e =
@@ -35,11 +38,11 @@ unread bytes t e h = let both_ways : None ≡ Some t = sym e ∙ spelled_read by
 
 -- no tree was read
 pub reads_none : (bytes : List ℕ) → read_all bytes ≡ None → Reads (Err error.NotXml) bytes
-reads_none bytes e = record { found = tt; only = λ t h. unread bytes t e h; none = λ is t h. unread bytes t e h; deep = λ is. absurd cc }
+reads_none bytes e = record { found = tt; only = λ t h. unread bytes t e h; none = λ is t h. unread bytes t e h; deep = λ is. absurd cc; valid = λ short. tt }
 
 -- memory ran out
 pub reads_nothing : (bytes : List ℕ) → Reads (Err error.Memory) bytes
-reads_nothing bytes = record { found = tt; only = λ t h. tt; none = λ is. absurd cc; deep = λ is. absurd cc }
+reads_nothing bytes = record { found = tt; only = λ t h. tt; none = λ is. absurd cc; deep = λ is. absurd cc; valid = λ short. tt }
 
 -- no levels were counted
 pub reads_uncounted : (e : XmlError) (bytes : List ℕ) → Counts (Err e) (skim_all bytes) → Reads (Err e) bytes
@@ -60,6 +63,7 @@ reads_deep bytes n e more =
       only = λ t h. more t (spelled_read bytes t h);
       none = λ is. absurd cc;
       deep = λ is. (c.0, read_spells bytes c.0 c.1, more c.0 c.1);
+      valid = λ short. tt;
     }
 
 -- the tree was read
@@ -69,4 +73,5 @@ reads_tree p bytes g = record {
   only = λ t h. let same = same_tree bytes (tree_of p) t g.0 h in (same, subst IsShallow same g.1);
   none = λ is. absurd cc;
   deep = λ is. absurd cc;
+  valid = λ short. spelled_valid bytes (tree_of p) short (read_spells bytes (tree_of p) g.0);
 }

@@ -18,7 +18,7 @@ use Rattle.mm_xml.proofs.Tokens.{Stops, is_span, written, IsLongest}
 abbrev pub AreTokens : List Token → Type 0
 AreTokens ts = AllByRecursion (λ x. IsTrue (is_token x)) ts
 
-append_none : {A : Type 0} (xs : List A) → xs ++ [] ≡ xs
+pub append_none : {A : Type 0} (xs : List A) → xs ++ [] ≡ xs
 append_none [] = refl
 append_none (x ∷ xs) = ap (λ ys. x ∷ ys) (append_none xs)
 

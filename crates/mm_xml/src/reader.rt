@@ -1,6 +1,7 @@
-ghost use Rattle.std.specs.Prelude.{◌≡◌, IfOk, IsErrOf};
+ghost use Rattle.std.specs.Prelude.{◌≡◌, ◌<◌, ◌^◌, length, IfOk, IsErrOf, IsTrue};
 ghost use Rattle.mm_tree.specs.declared.Kind.{Kind};
 ghost use Rattle.mm_tree.specs.Trees.{Tree, tree_of};
+ghost use Rattle.mm_tree.specs.Validity.{is_valid_tree};
 ghost use Rattle.mm_xml.specs.Grammar.{Spells};
 ghost use Rattle.mm_xml.specs.Reading.{read_all};
 ghost use Rattle.mm_xml.specs.Builds.{state_of, Gives};
@@ -45,6 +46,8 @@ pub fn read(alloc: Global, bytes: &[u8]) -> Result<Plain, XmlError>
     ensures none { IsErrOf result XmlError.NotXml → (t : Tree Kind) → ¬ Spells bytes.now t }
     // Bytes that are too deep spell a tree of more levels.
     ensures deep { IsErrOf result XmlError.TooDeep → (t : Tree Kind) × Spells bytes.now t × IsTooDeep t }
+    // What is given can be stored.
+    ensures valid { length bytes.now < 2 ^ 32 → IfOk result (λ p. IsTrue (is_valid_tree (tree_of p))) }
 {
     match shallow_tree(alloc, bytes) {
         Ok(tree) => Ok(tree),
