@@ -64,7 +64,7 @@ impl Opened {
         ensures { result ≡ bytes_eq name.now (name_of self.now.kind) }
     {
         match &self.kind {
-            Kind::Element { name: own, .. } => name == own.as_str().as_bytes(),
+            Kind::Element { name: own, .. } => name == own.as_bytes(),
             Kind::Words { .. } => name.is_empty(),
         }
     }
