@@ -1,3 +1,6 @@
 pub mod Trees
 pub mod Characters
+pub mod Validity
 pub mod Refusals
+pub mod Numbering
+pub mod Forests

@@ -1,5 +1,9 @@
 -- The numbers and words of refusals.
-use Rattle.std.specs.Prelude.{ℕ, List, codes, ◌≡◌, refl}
+use Rattle.std.specs.Prelude.{ℕ, List, codes}
+use Rattle.mm_label.specs.declared.LabelError.{LabelError}
+use Rattle.mm_label.specs.declared.LabelError.TheVariants as label_error
+use Rattle.mm_tree.specs.declared.refusal.TreeError.{TreeError}
+use Rattle.mm_tree.specs.declared.refusal.TreeError.TheVariants as error
 use Rattle.mm_tree.specs.declared.refusal.Refusal.{Refusal}
 use Rattle.mm_tree.specs.declared.refusal.Refusal.TheVariants.{Command, Size, Readonly, Label, Words, Many, Long, Absent, Leaf, Xml, Top, Deep, Room, Full}
 
@@ -34,3 +38,10 @@ word_of Top = codes "top"
 word_of Deep = codes "deep"
 word_of Room = codes "room"
 word_of Full = codes "full"
+
+-- a label that isn't there for want of memory, or for want of room
+abbrev pub of_label : LabelError → TreeError
+of_label label_error.Memory = error.Memory
+of_label label_error.NotALabel = error.Refused Room
+of_label (label_error.OutOfRange value) = error.Refused Room
+of_label (label_error.Full length) = error.Refused Room

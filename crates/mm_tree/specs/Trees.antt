@@ -1,5 +1,5 @@
 -- Trees as plain data, apart from where they lie in memory.
-use Rattle.std.specs.Prelude.{ℕ, ◌+◌, List, [], ◌∷◌, ◌≡◌, refl, map, max}
+use Rattle.std.specs.Prelude.{ℕ, ◌+◌, List, [], ◌∷◌, ◌++◌, Bool, true, false, ◌&&◌, ◌≡◌, refl, map, max}
 use Rattle.mm_tree.specs.declared.plain.Kind.{Kind}
 use Rattle.mm_tree.specs.declared.plain.Plain.{Plain, roll-Plain}
 use Rattle.mm_tree.specs.declared.plain.Plain.TheFolds.{fold-Plain, fold-roll-Plain, fold_out-Plain}
@@ -21,12 +21,29 @@ abbrev pub levels : {A : Type 0} → Trees A → ℕ
 levels none = 0
 levels (node a inner rest) = max (1 + levels inner) (levels rest)
 
+-- all nodes in the order of the document: each before its children, and these before its siblings
+abbrev pub preorder : {A : Type 0} → Trees A → List A
+preorder none = []
+preorder (node a inner rest) = a ∷ preorder inner ++ preorder rest
+
+abbrev pub has_some : {A : Type 0} → Trees A → Bool
+has_some none = false
+has_some (node a inner rest) = true
+
+-- each node passes a test, which is told whether the node has children
+abbrev pub every : {A : Type 0} → (A → Bool → Bool) → Trees A → Bool
+every test none = true
+every test (node a inner rest) = test a (has_some inner) && (every test inner && every test rest)
+
 -- a root with two children has three nodes on two levels
 three_nodes : nodes {A = ℕ} (node 1 (node 2 none (node 3 none none)) none) ≡ 3
 three_nodes = refl
 
 two_levels : levels {A = ℕ} (node 1 (node 2 none (node 3 none none)) none) ≡ 2
 two_levels = refl
+
+in_order : preorder {A = ℕ} (node 1 (node 2 (node 3 none none) none) (node 4 none none)) ≡ 1 ∷ 2 ∷ 3 ∷ 4 ∷ []
+in_order = refl
 
 -- one tree: what its root holds, and the root's children
 abbrev pub Tree : Type 0 → Type 0

@@ -4,10 +4,15 @@
 //! `specs/`, on plain data, and say what every answer of the store means.
 #![tactic(auto)]
 
+mod forest;
+mod measure;
+mod node;
 mod plain;
 mod refusal;
 mod text;
 
+pub use forest::{Done, Forest};
+pub use node::{Node, Nodes};
 pub use plain::{Attribute, Attributes, Kind, Plain, Plains};
 pub use refusal::{Refusal, TreeError};
 pub use text::Text;

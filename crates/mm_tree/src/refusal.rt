@@ -1,6 +1,7 @@
 ghost use Rattle.std.specs.Prelude.{◌≡◌};
 ghost use Rattle.mm_tree.specs.Refusals.{number_of, word_of};
 
+use mm_label::LabelError;
 use std::alloc::AllocError;
 use std::fmt;
 use thiserror::Error;
@@ -108,5 +109,18 @@ impl From<AllocError> for TreeError {
 
     fn from(_error: AllocError) -> TreeError {
         TreeError::Memory
+    }
+}
+
+impl From<LabelError> for TreeError {
+    ghost use Rattle.mm_tree.specs.Refusals.{of_label};
+
+    ghost from_gives = { λ l e. e ≡ of_label l };
+
+    fn from(error: LabelError) -> TreeError {
+        match error {
+            LabelError::Memory => TreeError::Memory,
+            _ => TreeError::Refused(Refusal::Room),
+        }
     }
 }

@@ -1,0 +1,6 @@
+pub mod Bytes
+pub mod Label
+pub mod Reading
+pub mod Between
+pub mod Text
+pub mod Answers

@@ -1,0 +1,5 @@
+pub mod NumberFacts
+pub mod MeasureFacts
+pub mod LabelledLaws
+pub mod NumberForm
+pub mod LoadFacts

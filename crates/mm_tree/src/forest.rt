@@ -1,0 +1,154 @@
+ghost use Rattle.std.specs.Prelude.{◌≡◌, ◌^◌, ◌-◌, ◌≤◌, [], IsTrue, IfOk, IfErr, OnOk, OnErr, None, not, min};
+ghost use Rattle.std.specs.Option.{SomeIff};
+ghost use Rattle.mm_tree.specs.Trees.{levels, nodes, one, tree_of};
+ghost use Rattle.mm_tree.specs.Numbering.{forest_of, Labels};
+ghost use Rattle.mm_tree.specs.Validity.{is_element};
+ghost use Rattle.mm_tree.specs.Forests.{is_well_formed, last_segment, next_label, load, load_refusal, IsRefusal};
+ghost use Rattle.mm_label.specs.Label.{IsSegment};
+ghost use Rattle.mm_label.specs.Between.{LiesBetween};
+ghost use Rattle.mm_label.specs.Answers.{RefusesSegment};
+
+use crate::measure::nodes_within;
+use crate::node::{Node, number};
+use crate::plain::{Kind, Plain};
+use crate::refusal::{Refusal, TreeError};
+use mm_label::{Label, LabelError, between, child};
+use mm_list::Items;
+use std::alloc::Global;
+use std::marker::Model;
+
+/// What an edit did: the label of the subtree's root, and how many nodes the subtree has.
+#[derive(Drop)]
+pub struct Done {
+    pub label: Label,
+    pub nodes: u64,
+}
+
+/// Labelled trees in order. Contracts see the list of their roots; the empty list at first.
+#[derive(Drop)]
+pub struct Forest {
+    trees: Items<Node>,
+}
+
+impl Model for Forest {
+    ghost use Rattle.std.specs.Prelude.{List};
+    ghost use Rattle.mm_tree.specs.declared.node.Node.{Node};
+    ghost use Rattle.mm_tree.specs.contracts.node.Node as node_contracts;
+    ghost use Rattle.std.specs.Coded.{codes};
+
+    ghost Value = { List Node };
+
+    ghost coded = { Prim.hlevel (codes, node_contracts.the_row.coded) };
+
+    ghost view = { λ f. f.trees };
+
+    ghost use Rattle.std.specs.Prelude.{IsTrue};
+    ghost use Rattle.mm_tree.specs.Numbering.{forest_of};
+    ghost use Rattle.mm_tree.specs.Forests.{is_well_formed};
+
+    ghost invariant = { λ f. IsTrue (is_well_formed (forest_of f.trees)) };
+}
+
+fn is_text(kind: &Kind) -> bool
+    ensures { result ≡ not (is_element kind.now) }
+{
+    match kind {
+        Kind::Element { .. } => false,
+        Kind::Words { .. } => true,
+    }
+}
+
+/// How many nodes the tree has, as far as the number fits. None where it has more than 200 levels.
+fn node_count(tree: &Plain) -> Option<u64>
+    ensures { SomeIff result (levels (one (tree_of tree.now)) ≤ 200) (min (nodes (one (tree_of tree.now))) (2 ^ 64 - 1)) }
+{
+    let below = nodes_within(tree.children.as_slice(), 199)?;
+    Some(below.saturating_add(1))
+}
+
+/// The segment of the tree that comes next.
+fn next_segment(alloc: Global, trees: &[Node]) -> Result<Vec<i64>, LabelError>
+    requires { IsTrue (is_well_formed (forest_of trees.now)) }
+    ensures value { IfOk result (λ v. v.items ≡ next_label (forest_of trees.now)) }
+    ensures segment { IfOk result (λ v. IsSegment v.items) }
+    ensures lies { IfOk result (λ v. LiesBetween (last_segment [] None (forest_of trees.now)) v.items None) }
+    ensures refused { IfErr result (λ e. RefusesSegment e (next_label (forest_of trees.now))) }
+{
+    match trees.last() {
+        None => between(alloc, None, None),
+        Some(tree) => {
+            let last = tree.label.segment(alloc)?;
+            between(alloc, Some(last.as_slice()), None)
+        }
+    }
+}
+
+/// The label of the tree that comes next.
+fn next_label(alloc: Global, trees: &[Node]) -> Result<Label, TreeError>
+    requires { IsTrue (is_well_formed (forest_of trees.now)) }
+    ensures label { Labels result (next_label (forest_of trees.now)) }
+    ensures lies { IfOk result (λ label. LiesBetween (last_segment [] None (forest_of trees.now)) label None) }
+{
+    let segment = next_segment(alloc, trees)?;
+    Ok(child(alloc, None, segment.as_slice())?)
+}
+
+/// Puts the tree, with its labels, behind the others. An `Err` changes nothing.
+fn load_behind(trees: &mut Items<Node>, alloc: Global, tree: Plain) -> Result<Done, TreeError>
+    requires formed { IsTrue (is_well_formed (forest_of trees.old)) }
+    ensures loaded { OnOk result (forest_of trees.new ≡ load (tree_of tree) (forest_of trees.old)) }
+    ensures label { IfOk result (λ done. done.label ≡ next_label (forest_of trees.old)) }
+    ensures nodes { IfOk result (λ done. done.nodes ≡ min (nodes (one (tree_of tree))) (2 ^ 64 - 1)) }
+    ensures accepted { OnOk result (load_refusal (tree_of tree) (forest_of trees.old) ≡ None) }
+    ensures refused { IfErr result (λ e. IsRefusal e (load_refusal (tree_of tree) (forest_of trees.old))) }
+    ensures err { OnErr result (trees.new ≡ trees.old) }
+    ensures formed { IsTrue (is_well_formed (forest_of trees.new)) }
+{
+    if is_text(&tree.kind) {
+        return Err(TreeError::Refused(Refusal::Top));
+    }
+    let Some(nodes) = node_count(&tree) else {
+        return Err(TreeError::Refused(Refusal::Deep));
+    };
+    let label = next_label(alloc, trees.as_slice())?;
+    let shown = label.copy(alloc)?;
+    let numbered = number(alloc, tree, label)?;
+    trees.push(numbered)?;
+    Ok(Done {
+        label: shown,
+        nodes,
+    })
+}
+
+impl Forest {
+    /// The empty forest. Takes no memory.
+    pub fn new(alloc: Global) -> Forest
+        ensures { result ≡ [] }
+    {
+        Forest {
+            trees: Items::new(alloc),
+        }
+    }
+
+    /// The trees in order.
+    pub fn trees(&self) -> &[Node]
+        ensures trees { result.now ≡ self.now }
+        ensures formed { IsTrue (is_well_formed (forest_of self.now)) }
+    {
+        self.trees.as_slice()
+    }
+
+    /// Puts the tree, with new labels, behind the others: the root's label goes on from the last
+    /// tree's, and the i-th child gets its parent's label and the segment 2i - 1. An `Err` changes
+    /// nothing.
+    pub fn load(&mut self, alloc: Global, tree: Plain) -> Result<Done, TreeError>
+        ensures loaded { OnOk result (forest_of self.new ≡ load (tree_of tree) (forest_of self.old)) }
+        ensures label { IfOk result (λ done. done.label ≡ next_label (forest_of self.old)) }
+        ensures nodes { IfOk result (λ done. done.nodes ≡ min (nodes (one (tree_of tree))) (2 ^ 64 - 1)) }
+        ensures accepted { OnOk result (load_refusal (tree_of tree) (forest_of self.old) ≡ None) }
+        ensures refused { IfErr result (λ e. IsRefusal e (load_refusal (tree_of tree) (forest_of self.old))) }
+        ensures err { OnErr result (self.new ≡ self.old) }
+    {
+        load_behind(&mut self.trees, alloc, tree)
+    }
+}
