@@ -1,5 +1,5 @@
 -- How commands are cut, line by line.
-use Rattle.std.proofs.Common.{◌≡◌, ℕ, ◌+◌, ◌<◌, ◌≤◌, Bool, true, false, List, [], ◌∷◌, ◌++◌, length, refl, ap, sym, ◌∙◌, arith, length-append, append_assoc, None, Some, Result, Ok, Err, cond, eqb, eqb-true}
+use Rattle.std.proofs.Common.{◌≡◌, ℕ, ◌<◌, Bool, true, false, List, [], ◌∷◌, ◌++◌, refl, ap, ◌∙◌, arith, length-append, append_assoc, None, Some, Result, Ok, Err, cond, eqb, eqb-true}
 use Rattle.std.specs.declared.option.Option.{Option}
 use Rattle.std.specs.Io.KnownBytes.{IsAtEnd}
 use Rattle.mm_run.specs.declared.command.Command.{Command}
@@ -16,8 +16,8 @@ use Rattle.mm_run.specs.Forms.{form_of, takes_payload, quits}
 use Rattle.mm_run.specs.Payloads.{closes, payload_of}
 use Rattle.mm_run.specs.Commands.{Begun, grouped}
 use Rattle.mm_run.specs.Input.{Went}
-use Rattle.mm_run.specs.Step.{Cuts, WentPart, WentRow, WentLastRow, WentCommand, WentLast, WentQuit, WentRest, GivesNext, IsLast, last_payload}
-use Rattle.mm_run.proofs.Going.{went-none, went-more}
+use Rattle.mm_run.specs.Step.{WentPart, WentRow, WentLastRow, WentCommand, WentLast, WentQuit, WentRest, GivesNext, IsLast, last_payload}
+use Rattle.mm_run.proofs.Going.{went-more}
 use Rattle.mm_run.proofs.Spaces.{test-false}
 
 -- a whole line comes first

@@ -1,7 +1,6 @@
 -- How a payload is gathered, line by line.
-use Rattle.std.proofs.Common.{◌≡◌, ℕ, ◌+◌, ◌<◌, ◌≤◌, Bool, true, false, List, [], ◌∷◌, ◌++◌, length, refl, ap, ◌∙◌, sym, None, Some, Result, Ok, Err}
+use Rattle.std.proofs.Common.{◌≡◌, ℕ, ◌+◌, ◌<◌, true, false, List, [], ◌∷◌, ◌++◌, length, refl, ap, ◌∙◌, sym, Some, Result, Ok, Err}
 use Rattle.std.specs.declared.option.Option.{Option}
-use Rattle.mm_run.specs.declared.command.Command.{Command}
 use Rattle.mm_run.specs.declared.command.Form.{Form}
 use Rattle.mm_run.specs.declared.command.Payload.{Payload}
 use Rattle.mm_run.specs.declared.command.Payload.TheVariants.{Cut, Long}
@@ -11,7 +10,6 @@ use Rattle.mm_run.specs.declared.line.ReadError.{ReadError}
 use Rattle.mm_run.specs.declared.line.ReadError.TheVariants.{Source, Memory}
 use Rattle.mm_run.specs.Forms.{quits}
 use Rattle.mm_run.specs.Payloads.{unstopped, joined, ended_rows, payload_of, payload_limit}
-use Rattle.mm_run.specs.Commands.{Begun}
 use Rattle.mm_run.specs.Step.{WentPart, WentRow, WentLastRow, GivesRow, GivesNext}
 use Rattle.mm_run.proofs.Cutting.{after-row, row-closed, row-last, row-cut, part-rest}
 use Rattle.mm_run.proofs.Rows.{ended-more, long-is, over-is, over-more}

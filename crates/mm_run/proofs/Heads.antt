@@ -1,11 +1,9 @@
 -- Command lines, of which only so much is kept as tells what they ask for.
-use Rattle.std.proofs.Common.{◌≡◌, ℕ, ◌+◌, ◌-◌, ◌<◌, ◌≤◌, Bool, true, false, cond, List, [], ◌∷◌, ◌++◌, length, take, refl, ap, sym, ◌∙◌, arith, ⊎_elim, None, Some, Result, Ok, Err, subst}
+use Rattle.std.proofs.Common.{◌≡◌, ℕ, ◌+◌, ◌<◌, ◌≤◌, true, false, cond, List, [], ◌∷◌, ◌++◌, length, take, ap, sym, ◌∙◌, arith, ⊎_elim, None, Some, Result, Err, subst}
 use Rattle.std.proofs.lemmas.List.{take_all, length-take, length-take-le, nil_from_length}
 use Rattle.std.proofs.lemmas.Bool.{cases_lt, lt-leb}
 use Rattle.std.specs.declared.option.Option.{Option}
 use Rattle.std.specs.Io.BufRead.{strip_last, ends_with_byte}
-use Rattle.std.specs.Io.KnownBytes.{IsAtEnd}
-use Rattle.mm_run.specs.declared.command.Command.{Command}
 use Rattle.mm_run.specs.declared.command.Form.{Form}
 use Rattle.mm_run.specs.declared.command.Form.TheVariants.{Unknown}
 use Rattle.mm_run.specs.declared.reading.Next.{Next}

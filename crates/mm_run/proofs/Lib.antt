@@ -6,3 +6,6 @@ pub mod Cutting
 pub mod Rows
 pub mod Gathering
 pub mod Heads
+pub mod Unspelled
+pub mod Turns
+pub mod Telling

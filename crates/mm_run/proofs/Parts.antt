@@ -1,16 +1,15 @@
 -- A line that comes in parts.
-use Rattle.std.proofs.Common.{◌≡◌, ℕ, ◌<◌, ◌≤◌, List, [], ◌∷◌, ◌++◌, length, take, refl, ap, sym, ◌∙◌, arith, ⊎_elim, length-append, append_assoc, append-nil, Ok, Err}
+use Rattle.std.proofs.Common.{◌≡◌, ℕ, ◌<◌, ◌≤◌, List, [], ◌∷◌, ◌++◌, length, take, ap, sym, ◌∙◌, arith, ⊎_elim, length-append, append_assoc, append-nil, Ok}
 use Rattle.std.proofs.lemmas.List.{take_all, take-take, take-append-le, length-take-le}
 use Rattle.std.proofs.lemmas.Bool.{cases_lt}
 use Rattle.std.specs.declared.option.Option.{Option}
 use Rattle.std.specs.Io.KnownBytes.{prepend_known, IsAtEnd}
-use Rattle.mm_run.specs.declared.line.Ending.TheVariants.{Feed, Input, Full}
-use Rattle.mm_run.specs.declared.line.ReadError.TheVariants.{Source}
+use Rattle.mm_run.specs.declared.line.Ending.TheVariants.{Feed, Input}
 use Rattle.mm_run.specs.Buffer.{Buffered}
 use Rattle.mm_run.specs.Lines.{HasNoLineFeed}
 use Rattle.mm_run.specs.Input.{rest, reach, Went}
 use Rattle.mm_run.specs.Step.{KeepsLine, WentPart, GivesLine}
-use Rattle.mm_run.proofs.Going.{prepend_known-nil, prepend_known-append, went-none, went-more, went-still, no_feed-append}
+use Rattle.mm_run.proofs.Going.{prepend_known-append, went-none, went-more, went-still, no_feed-append}
 
 -- what is cut from the front may be cut again
 take-take-append : (n : ℕ) (xs ys : List ℕ) → take n (take n xs ++ ys) ≡ take n (xs ++ ys)

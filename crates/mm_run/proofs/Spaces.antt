@@ -1,5 +1,5 @@
 -- The spaces at a line's end.
-use Rattle.std.proofs.Common.{◌≡◌, ◌≢◌, ℕ, Bool, true, false, cond, List, [], ◌∷◌, ◌++◌, refl, ap, sym, ◌∙◌, eqb, eqb-true}
+use Rattle.std.proofs.Common.{◌≡◌, ◌≢◌, ℕ, Bool, true, false, List, [], ◌∷◌, ◌++◌, refl, ap, sym, ◌∙◌, eqb, eqb-true}
 use Rattle.mm_run.specs.Forms.{before_spaces, onto_unless_space}
 
 pub test-false : {P : Type 0} (test : Bool) → (test ≡ true → P) → ¬ P → test ≡ false

@@ -5,3 +5,5 @@ pub mod Commands
 pub mod Buffer
 pub mod Input
 pub mod Step
+pub mod Answers
+pub mod Run

@@ -1,5 +1,5 @@
-use Rattle.std.proofs.Common.{◌≡◌, ◌∙◌, ◌++◌, ◌∷◌, [], sym, ap, arith, length, length-append, append_assoc, true, false}
-use Rattle.mm_run.specs.Payloads.{closes, unstopped}
+use Rattle.std.proofs.Common.{◌≡◌, ◌∙◌, arith, true, false}
+use Rattle.mm_run.specs.Payloads.{closes}
 use Rattle.mm_run.proofs.Rows.{row-front, row-closes, row-ends, row-passes}
 use Rattle.mm_run.proofs.payload.next_row.Goals as goal
 
