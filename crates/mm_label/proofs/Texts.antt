@@ -1,5 +1,5 @@
 -- The text of components, piece by piece.
-use Rattle.std.proofs.Common.{◌≡◌, ℕ, suc, ◌<◌, ◌≤◌, ◌^◌, Bool, true, false, ◌&&◌, IsTrue, T, ℤ, pos, negsuc, List, [], ◌∷◌, ◌++◌, length, map, refl, sym, ap, subst, ◌∙◌, arith, flat_map, append-nil, append_assoc, eqb, w64, All, get_or, drop, add-one, ◌+◌, drop-cons, not}
+use Rattle.std.proofs.Common.{◌≡◌, ℕ, suc, ◌<◌, ◌≤◌, ◌^◌, Bool, true, false, ◌&&◌, IsTrue, T, ℤ, pos, negsuc, List, [], ◌∷◌, ◌++◌, length, map, refl, sym, ap, ap₂, subst, ◌∙◌, arith, flat_map, append-nil, append_assoc, eqb, w64, All, get_or, drop, add-one, ◌+◌, drop-cons, not}
 use Rattle.std.specs.Borrow.{Bor}
 use Rattle.std.proofs.Math.ListN.{drop_of_length-le}
 use Rattle.std.specs.Prelude.{Option, Some, None, Result, Ok, Err, Vec, IfOk, option_map}
@@ -10,7 +10,7 @@ use Rattle.std.specs.Str.Parse.{AllDigits, ParsesSigned}
 use Rattle.std.proofs.Math.Facts.{sfits_lit}
 use Rattle.std.proofs.lemmas.Bool.{ltb-true}
 use Rattle.std.proofs.lemmas.Bool.Decides.{nat_tests}
-use Rattle.std.proofs.lemmas.Fmt.{decimal_is_IsNumeral, parse-signed_decimal}
+use Rattle.std.proofs.lemmas.Fmt.{decimal_is_IsNumeral, parse-signed_decimal, signed_decimal_injective}
 use Rattle.std.proofs.lemmas.List.Elements.{All-nil, All-cons}
 use Rattle.std.proofs.lemmas.List.Splits.{slice_split_none, slice_split_at}
 use Rattle.std.proofs.lemmas.Str.Parse.{digit_from_value}
@@ -73,11 +73,27 @@ split_label : (cs : List ℤ) → IsLabel cs → slice_split is_stop (text_of cs
 split_label [] h = absurd (let k : false ≡ true = h.ends_odd in cc)
 split_label (c ∷ cs) h = split_text c cs h.in_range
 
--- ---- what a piece is read as
-
 range_mag : (c : ℤ) → is_in_range c ≡ true → mag c < 4294975552
 range_mag (pos n) h = ltb-true n 4294975552 h
 range_mag (negsuc n) h = ltb-true n 4294975552 h
+
+head_same : (x y : List ℕ) (xs ys : List (List ℕ)) → x ∷ xs ≡ y ∷ ys → (x ≡ y) × (xs ≡ ys)
+head_same x y xs ys e = (cc, cc)
+
+same_components : (a b : List ℤ) → IsTrue (all_in_range a) → IsTrue (all_in_range b) → map signed_decimal a ≡ map signed_decimal b → a ≡ b
+same_components [] [] h k e = refl
+same_components [] (d ∷ b) h k e = absurd cc
+same_components (c ∷ a) [] h k e = absurd cc
+same_components (c ∷ a) (d ∷ b) h k e =
+    let p = both (is_in_range c) (all_in_range a) h in let q = both (is_in_range d) (all_in_range b) k in
+    let s = head_same (signed_decimal c) (signed_decimal d) (map signed_decimal a) (map signed_decimal b) e in
+    ap₂ (λ x zs. x ∷ zs) (signed_decimal_injective c d (omega (arith, range_mag c p.0)) (omega (arith, range_mag d q.0)) s.0) (same_components a b p.1 q.1 s.1)
+
+pub one_text : (a b : List ℤ) → IsLabel a → IsLabel b → text_of a ≡ text_of b → a ≡ b
+one_text a b h k e =
+    same_components a b h.in_range k.in_range (sym (split_label a h) ∙ ap (λ zs. slice_split is_stop zs) e ∙ split_label b k)
+
+-- ---- what a piece is read as
 
 range_fits : (c : ℤ) → is_in_range c ≡ true → SFits w64 c
 range_fits c h = sfits_lit (subst T (sym (yes (mag c) (2 ^ 63) (omega (arith, range_mag c h)))) tt)
@@ -109,9 +125,6 @@ pub record FoundSoFar (texts left : List (List ℕ)) (found : List ℤ) : Type 0
 
 pub found_none : (texts : List (List ℕ)) → FoundSoFar texts texts []
 found_none texts = record { in_range = refl; only = λ cs h e. record { rest = cs; parts = refl; same = e } }
-
-head_same : (x y : List ℕ) (xs ys : List (List ℕ)) → x ∷ xs ≡ y ∷ ys → (x ≡ y) × (xs ≡ ys)
-head_same x y xs ys e = (cc, cc)
 
 middle_in_range : (found : List ℤ) (c : ℤ) (rest : List ℤ) → IsTrue (all_in_range (found ++ c ∷ rest)) → is_in_range c ≡ true
 middle_in_range [] c rest h = (both (is_in_range c) (all_in_range rest) h).0

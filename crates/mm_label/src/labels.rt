@@ -12,16 +12,17 @@ ghost use Rattle.mm_label.specs.Answers.{RefusesLabel, RefusesText, front_of};
 use crate::component::components;
 use crate::decimal::{read, text_of};
 use crate::error::LabelError;
-use crate::spelling::push_spelled;
+use crate::spelling::{MOST_BYTES, Spelled, push_spelled};
 use crate::walk::{common_length, is_label, odd_count, segment_start};
 use std::alloc::{AllocError, Global};
 use std::cmp::Ordering;
 use std::marker::Model;
 
-/// A label, seen as the list of its components. It holds the bytes that spell it.
+/// A label, seen as the list of its components. It holds the bytes that spell it, and where they are
+/// at most 16, as mostly, takes no memory of its own.
 #[derive(Debug, Drop)]
 pub struct Label {
-    bytes: Vec<u8>,
+    bytes: Spelled,
 }
 
 impl Model for Label {
@@ -51,7 +52,7 @@ impl Label {
         if canonical.as_str() != text {
             return Err(LabelError::NotALabel);
         }
-        let mut bytes = Vec::new(alloc);
+        let mut bytes = Spelled::new(alloc);
         push_spelled(&mut bytes, components.as_slice())?;
         if !is_label(bytes.as_slice()) {
             return Err(LabelError::NotALabel);
@@ -66,7 +67,7 @@ impl Label {
         if !is_label(bytes) {
             return Ok(None);
         }
-        let mut held = Vec::new(alloc);
+        let mut held = Spelled::new(alloc);
         held.extend_from_slice(bytes)?;
         Ok(Some(Label { bytes: held }))
     }
@@ -103,7 +104,7 @@ impl Label {
         if cut == 0 {
             return Ok(None);
         }
-        let mut bytes = Vec::new(alloc);
+        let mut bytes = Spelled::new(alloc);
         bytes.extend_from_slice(&self.bytes.as_slice()[..cut])?;
         Ok(Some(Label { bytes }))
     }
@@ -129,7 +130,7 @@ impl Label {
     pub fn copy(&self, alloc: Global) -> Result<Label, AllocError>
         ensures { IfOk result (λ a. a ≡ self.now) }
     {
-        let mut bytes = Vec::new(alloc);
+        let mut bytes = Spelled::new(alloc);
         bytes.extend_from_slice(self.bytes.as_slice())?;
         Ok(Label { bytes })
     }
@@ -181,16 +182,16 @@ impl Ord for Label {
     }
 }
 
-/// The bytes before the segment.
-fn front_bytes(alloc: Global, parent: Option<&Label>) -> Result<Vec<u8>, AllocError>
-    ensures value { IfOk result (λ v. v.items ≡ bytes_of (front_of (option_map (λ p. p.now) parent.entry))) }
+/// The bytes before the segment: the parent's, or none.
+fn front_bytes(parent: Option<&Label>) -> &[u8]
+    ensures value { result.now ≡ bytes_of (front_of (option_map (λ p. p.now) parent.entry)) }
     ensures in_range { IsTrue (all_in_range (front_of (option_map (λ p. p.now) parent.entry))) }
+    ensures short { length result.now ≤ 512 }
 {
-    let mut bytes = Vec::new(alloc);
-    if let Some(label) = parent {
-        bytes.extend_from_slice(label.as_bytes())?;
+    match parent {
+        Some(label) => label.as_bytes(),
+        None => &[],
     }
-    Ok(bytes)
 }
 
 /// The label below the parent whose last segment this is; without a parent, the label of level 1.
@@ -200,11 +201,15 @@ pub fn child(alloc: Global, parent: Option<&Label>, segment: &[i64]) -> Result<L
     ensures label { IfOk result IsLabel }
     ensures refused { IfErr result (λ e. RefusesLabel e (front_of (option_map (λ p. p.now) parent.entry) ++ segment.now)) }
 {
-    let mut bytes = front_bytes(alloc, parent)?;
+    let front = front_bytes(parent);
+    let mut bytes = Spelled::new(alloc);
+    bytes.extend_from_slice(front)?;
     push_spelled(&mut bytes, segment)?;
-    let length = bytes.len() as u64;
-    if length > 512 {
-        return Err(LabelError::Full { length });
+    let length = bytes.len();
+    if length > MOST_BYTES {
+        return Err(LabelError::Full {
+            length: length as u64,
+        });
     }
     Ok(Label { bytes })
 }
@@ -218,7 +223,7 @@ pub fn lca(alloc: Global, a: &Label, b: &Label) -> Result<Option<Label>, AllocEr
     if length == 0 {
         return Ok(None);
     }
-    let mut bytes = Vec::new(alloc);
+    let mut bytes = Spelled::new(alloc);
     bytes.extend_from_slice(&a.bytes.as_slice()[..length])?;
     Ok(Some(Label { bytes }))
 }

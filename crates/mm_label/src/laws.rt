@@ -5,6 +5,7 @@ ghost use Rattle.std.specs.Cmp.Lexicographic.{slice_cmp};
 ghost use Rattle.std.specs.Ordering.{nat_cmp, int_cmp};
 ghost use Rattle.mm_label.specs.Bytes.{bytes_of};
 ghost use Rattle.mm_label.specs.Label.{IsLabel, IsAncestorOrSelf, IsPrefix, is_segment, lca};
+ghost use Rattle.mm_label.specs.Text.{text_of};
 ghost use Rattle.mm_label.specs.Between.{between, IsOrdered, LiesBetween};
 
 /// Byte order is label order.
@@ -20,6 +21,11 @@ pub fn ancestry()
 /// Bytes spell at most one label.
 pub fn one_label()
     ensures { (a b : List ℤ) → IsLabel a → IsLabel b → bytes_of a ≡ bytes_of b → a ≡ b }
+{}
+
+/// A text is the canonical text of at most one label.
+pub fn one_text()
+    ensures { (a b : List ℤ) → IsLabel a → IsLabel b → text_of a ≡ text_of b → a ≡ b }
 {}
 
 /// What stands between two neighbours is a segment, above the left one and below the right one.

@@ -18,3 +18,6 @@ mod walk;
 pub use error::LabelError;
 pub use gap::between;
 pub use labels::{Label, child, lca};
+
+#[cfg(test)]
+mod tests;

@@ -6,12 +6,13 @@ ghost use Rattle.mm_label.specs.Label.{SpellsNoLabel, level, lca};
 ghost use Rattle.mm_label.specs.Reading.{component_at, components, IsSpelled, StartsLastSegment, FindsBoth};
 
 use crate::component::{component_at, is_odd};
+use crate::spelling::MOST_BYTES;
 
 /// Whether the bytes spell a label.
 pub fn is_label(bytes: &[u8]) -> bool
     ensures { MatchBool result (IsSpelled bytes.now) (SpellsNoLabel bytes.now) }
 {
-    if bytes.len() > 512 {
+    if bytes.len() > MOST_BYTES {
         return false;
     }
     let mut rest = bytes;

@@ -3,3 +3,4 @@ pub mod MeasureFacts
 pub mod LabelledLaws
 pub mod NumberForm
 pub mod LoadFacts
+pub mod OrderLaws

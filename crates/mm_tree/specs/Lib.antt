@@ -4,3 +4,4 @@ pub mod Validity
 pub mod Refusals
 pub mod Numbering
 pub mod Forests
+pub mod Order

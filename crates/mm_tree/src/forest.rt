@@ -152,3 +152,6 @@ impl Forest {
         load_behind(&mut self.trees, alloc, tree)
     }
 }
+
+#[cfg(test)]
+mod tests;

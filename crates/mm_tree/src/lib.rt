@@ -5,6 +5,7 @@
 #![tactic(auto)]
 
 mod forest;
+pub mod laws;
 mod measure;
 mod node;
 mod plain;

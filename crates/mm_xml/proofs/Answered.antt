@@ -1,6 +1,6 @@
 -- What the reader answers, from the levels that were counted and the tree that was read.
-use Rattle.std.proofs.Common.{◌≡◌, ℕ, ◌<◌, ◌≤◌, List, Option, Some, None, refl, sym, ap, subst, ◌∙◌, arith}
-use Rattle.std.specs.Prelude.{IfOk, IsErrOf, Result, Ok, Err}
+use Rattle.std.proofs.Common.{◌≡◌, ℕ, ◌^◌, ◌<◌, List, length, Option, Some, None, refl, sym, ap, subst, ◌∙◌, arith}
+use Rattle.std.specs.Prelude.{IfOk, IsErrOf, IsTrue, Result, Ok, Err}
 use Rattle.mm_tree.specs.declared.Kind.{Kind}
 use Rattle.mm_tree.specs.declared.Plain.{Plain}
 use Rattle.mm_tree.specs.Trees.{Tree, one, levels, tree_of}
@@ -12,6 +12,8 @@ use Rattle.mm_xml.specs.Skimming.{skim_all}
 use Rattle.mm_xml.specs.Builds.{Gives, Counts, Refuses}
 use Rattle.mm_xml.specs.Answers.{most_levels, IsShallow, IsTooDeep, AnswersFor}
 use Rattle.mm_xml.proofs.Options.{bind_some, some_is}
+use Rattle.mm_tree.specs.Validity.{is_valid_tree}
+use Rattle.mm_xml.proofs.Valid.{spelled_valid}
 use Rattle.mm_xml.proofs.Whole.{read_spells, spelled_read}
 use Rattle.mm_xml.proofs.Levels.{level_count_of, skimmed_levels}
 
@@ -21,6 +23,7 @@ pub record Reads (r : Result Plain XmlError) (bytes : List ℕ) : Type 0 where
   pub only : (t : Tree Kind) → Spells bytes t → AnswersFor r t
   pub none : IsErrOf r error.NotXml → (t : Tree Kind) → ¬ Spells bytes t
   pub deep : IsErrOf r error.TooDeep → (t : Tree Kind) × Spells bytes t × IsTooDeep t
+  pub valid : length bytes < 2 ^ 32 → IfOk r (λ p. IsTrue (is_valid_tree (tree_of p)))
 
 counted : (bytes : List ℕ) (n : ℕ) → skim_all bytes ≡ Some n → (t : Tree Kind) × (read_all bytes ≡ Some t) × (levels (one t) ≡ n)
 counted bytes n e =
@@ -35,11 +38,11 @@ unread bytes t e h = let both_ways : None ≡ Some t = sym e ∙ spelled_read by
 
 -- no tree was read
 pub reads_none : (bytes : List ℕ) → read_all bytes ≡ None → Reads (Err error.NotXml) bytes
-reads_none bytes e = record { found = tt; only = λ t h. unread bytes t e h; none = λ is t h. unread bytes t e h; deep = λ is. absurd cc }
+reads_none bytes e = record { found = tt; only = λ t h. unread bytes t e h; none = λ is t h. unread bytes t e h; deep = λ is. absurd cc; valid = λ short. tt }
 
 -- memory ran out
 pub reads_nothing : (bytes : List ℕ) → Reads (Err error.Memory) bytes
-reads_nothing bytes = record { found = tt; only = λ t h. tt; none = λ is. absurd cc; deep = λ is. absurd cc }
+reads_nothing bytes = record { found = tt; only = λ t h. tt; none = λ is. absurd cc; deep = λ is. absurd cc; valid = λ short. tt }
 
 -- no levels were counted
 pub reads_uncounted : (e : XmlError) (bytes : List ℕ) → Counts (Err e) (skim_all bytes) → Reads (Err e) bytes
@@ -51,29 +54,24 @@ reads_uncounted error.NotXml bytes c = reads_none bytes (not_there (read_all byt
 reads_uncounted error.TooDeep bytes c = absurd c
 reads_uncounted error.Memory bytes c = reads_nothing bytes
 
--- too many levels were counted
-pub reads_deep : (bytes : List ℕ) (n : ℕ) → skim_all bytes ≡ Some n → most_levels < n → Reads (Err error.TooDeep) bytes
+-- a level too many was met, and the bytes spell a tree
+pub reads_deep : (bytes : List ℕ) (n : ℕ) → skim_all bytes ≡ Some n → Gives (Err error.TooDeep) (read_all bytes) → Reads (Err error.TooDeep) bytes
 reads_deep bytes n e more =
     let c = counted bytes n e in
-    let deep : IsTooDeep c.0 = omega (arith, c.2) in
     record {
       found = tt;
-      only = λ t h. subst IsTooDeep (same_tree bytes c.0 t c.1 h) deep;
+      only = λ t h. more t (spelled_read bytes t h);
       none = λ is. absurd cc;
-      deep = λ is. (c.0, read_spells bytes c.0 c.1, deep);
+      deep = λ is. (c.0, read_spells bytes c.0 c.1, more c.0 c.1);
+      valid = λ short. tt;
     }
 
--- few enough levels were counted, and the tree was read
-pub reads_shallow : (r : Result Plain XmlError) (bytes : List ℕ) (n : ℕ) → skim_all bytes ≡ Some n → n ≤ most_levels → Gives r (read_all bytes) → Reads r bytes
-reads_shallow (Ok p) bytes n e few g =
-    let c = counted bytes n e in
-    let shallow : IsShallow (tree_of p) = subst IsShallow (same_tree bytes c.0 (tree_of p) c.1 (read_spells bytes (tree_of p) g)) (omega (arith, c.2, few)) in
-    record {
-      found = (read_spells bytes (tree_of p) g, shallow);
-      only = λ t h. (same_tree bytes (tree_of p) t g h, subst IsShallow (same_tree bytes (tree_of p) t g h) shallow);
-      none = λ is. absurd cc;
-      deep = λ is. absurd cc;
-    }
-reads_shallow (Err error.NotXml) bytes n e few g = reads_none bytes g
-reads_shallow (Err error.TooDeep) bytes n e few g = absurd g
-reads_shallow (Err error.Memory) bytes n e few g = reads_nothing bytes
+-- the tree was read
+pub reads_tree : (p : Plain) (bytes : List ℕ) → Gives (Ok p) (read_all bytes) → Reads (Ok p) bytes
+reads_tree p bytes g = record {
+  found = (read_spells bytes (tree_of p) g.0, g.1);
+  only = λ t h. let same = same_tree bytes (tree_of p) t g.0 h in (same, subst IsShallow same g.1);
+  none = λ is. absurd cc;
+  deep = λ is. absurd cc;
+  valid = λ short. spelled_valid bytes (tree_of p) short (read_spells bytes (tree_of p) g.0);
+}

@@ -43,10 +43,10 @@ name_chars (c ∷ cs) h =
     let v = both (is_name_start c) (list_all is_name_char cs) w.0 in
     rw (v.0, v.1) refl
 
-name_ascii : (name : List ℕ) → is_name name ≡ true → IsAscii name
+pub name_ascii : (name : List ℕ) → is_name name ≡ true → IsAscii name
 name_ascii name h = low_all is_name_char name_low name (name_chars name h)
 
-text_ascii : (text : List ℕ) → list_all is_text_char text ≡ true → IsAscii text
+pub text_ascii : (text : List ℕ) → list_all is_text_char text ≡ true → IsAscii text
 text_ascii text h = low_all is_text_char text_low text h
 
 pub name_utf8 : (name : List ℕ) → is_name name ≡ true → IsUtf8 name

@@ -5,4 +5,6 @@ pub mod Machine
 pub mod Runs
 pub mod Whole
 pub mod Levels
+pub mod Productions
+pub mod Valid
 pub mod Answered

@@ -26,7 +26,7 @@ abbrev join : List (Tree Kind) → Trees Kind → Trees Kind
 join [] ts = ts
 join (t ∷ xs) ts = node t.0 t.1 (join xs ts)
 
-abbrev grown : Frame → Trees Kind → Frame
+abbrev pub grown : Frame → Trees Kind → Frame
 grown f none = f
 grown f (node kind inner rest) = grown (with_child f (kind, inner)) rest
 
@@ -57,7 +57,7 @@ closes k inner f fs ps =
     let tree : frame_tree (grown (fresh k) inner) ≡ (k, inner) = (λ i. (grown_kind (fresh k) inner i, grown_before (fresh k) inner i)) in
     rw (same, tree) refl
 
-complete : (ts : Trees Kind) (f : Frame) (fs : List Frame) (ps : List Bracket) → place_all (Inside f fs) (bracketing ts ++ ps) ≡ place_all (Inside (grown f ts) fs) ps
+pub complete : (ts : Trees Kind) (f : Frame) (fs : List Frame) (ps : List Bracket) → place_all (Inside f fs) (bracketing ts ++ ps) ≡ place_all (Inside (grown f ts) fs) ps
 complete none f fs ps = refl
 complete (node k inner rest) f fs ps =
     ap (λ qs. place_all (Inside (fresh k) (f ∷ fs)) qs) (append_assoc (bracketing inner) (End (name_of k) ∷ bracketing rest) ps)

@@ -10,7 +10,7 @@ use Rattle.mm_tree.specs.Trees.{Trees, none, node, Tree, siblings}
 use Rattle.mm_xml.specs.declared.token.Tag.{Tag}
 use Rattle.mm_xml.specs.declared.token.Tag.TheVariants.{Open, Empty, Close}
 use Rattle.mm_xml.specs.Grammar.{Token, Tagged, Char, is_token, is_text_char, spelled, spelled_tag, Bracket, Begin, End, name_of, text_brackets, tag_brackets, brackets, IsBareOutside}
-use Rattle.mm_xml.specs.Reading.{◌>>=◌, Span, Mark, Run, Frame, State, Before, Inside, After, fresh, with_child, frame_tree, closed, place_all, text_step, span_step}
+use Rattle.mm_xml.specs.Reading.{◌>>=◌, Span, Mark, Run, Frame, State, Before, Inside, After, fresh, with_child, frame_tree, closed, depth_of, place_all, text_step, span_step}
 use Rattle.mm_xml.proofs.Options.{both}
 use Rattle.mm_xml.proofs.Ascii.{text_same, name_same, char_same}
 use Rattle.mm_xml.proofs.Tokens.{Stops, is_span, written, IsLongest}
@@ -18,7 +18,7 @@ use Rattle.mm_xml.proofs.Tokens.{Stops, is_span, written, IsLongest}
 abbrev pub AreTokens : List Token → Type 0
 AreTokens ts = AllByRecursion (λ x. IsTrue (is_token x)) ts
 
-append_none : {A : Type 0} (xs : List A) → xs ++ [] ≡ xs
+pub append_none : {A : Type 0} (xs : List A) → xs ++ [] ≡ xs
 append_none [] = refl
 append_none (x ∷ xs) = ap (λ ys. x ∷ ys) (append_none xs)
 
@@ -114,11 +114,6 @@ no_char_here (Char c ∷ ts) rest each e h =
 no_char_here (Tagged tag name ∷ ts) rest each e h = tt
 
 -- ---- where a span leads
-
-abbrev pub depth_of : State → ℕ
-depth_of Before = 0
-depth_of (Inside f fs) = suc (length fs)
-depth_of (After t) = 0
 
 abbrev pub IsDeep : Option State → ℕ → Type 0
 IsDeep None n = Unit {0}

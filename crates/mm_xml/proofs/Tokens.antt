@@ -99,7 +99,7 @@ open_takes bytes x e =
     let name = (name_at bytes).0 in
     let t = taken (fits_name name) (open_end_at name (name_at bytes).1) x e in
     subst (λ (r : List ℕ). Takes (60 ∷ r) x) (take-append-drop (prefix_len is_name_char bytes) bytes)
-      (open_end_takes name (name_at bytes).1 x (name_is name (prefix_all is_name_char bytes) t.0) t.1)
+    (open_end_takes name (name_at bytes).1 x (name_is name (prefix_all is_name_char bytes) t.0) t.1)
 
 close_takes : (bytes : List ℕ) (x : Span × List ℕ) → close_at bytes ≡ Some x → Takes (60 ∷ 47 ∷ bytes) x
 unfolding close_at

@@ -9,12 +9,12 @@ use Rattle.mm_tree.specs.Trees.{Tree, one}
 use Rattle.mm_xml.specs.declared.token.Tag.{Tag}
 use Rattle.mm_xml.specs.declared.token.Tag.TheVariants.{Open, Empty, Close}
 use Rattle.mm_xml.specs.Grammar.{Token, Tagged, Char, is_name, is_text_char, spelled, spelled_tag, Bracket, text_brackets, tag_brackets, brackets, bracketing, IsBareOutside, Spells}
-use Rattle.mm_xml.specs.Reading.{◌>>=◌, Span, Mark, Run, Frame, State, Before, Inside, After, place_all, finished, text_step, span_step, span_at, read_from, read_all}
+use Rattle.mm_xml.specs.Reading.{◌>>=◌, Span, Mark, Run, Frame, State, Before, Inside, After, depth_of, place_all, finished, text_step, span_step, span_at, read_from, read_all}
 use Rattle.mm_xml.proofs.Options.{bind_some, some_is}
 use Rattle.mm_xml.proofs.Ascii.{name_same}
 use Rattle.mm_xml.proofs.Tokens.{is_span, written, IsLongest, Takes, span_takes, mark_again, run_again}
 use Rattle.mm_xml.proofs.Machine.{build, place_all_append, build_full, build_sound}
-use Rattle.mm_xml.proofs.Runs.{AreTokens, leading, behind, no_char_behind, leading_text, behind_tokens, spelled_leading, stops_behind, brackets_leading, bare_behind, parted, run_brackets, run_tokens, run_spelled, run_bare, no_char_here, depth_of, IsDeep, depth_after, tag_leads, bare_tag, tag_bare, text_lands}
+use Rattle.mm_xml.proofs.Runs.{AreTokens, leading, behind, no_char_behind, leading_text, behind_tokens, spelled_leading, stops_behind, brackets_leading, bare_behind, parted, run_brackets, run_tokens, run_spelled, run_bare, no_char_here, IsDeep, depth_after, tag_leads, bare_tag, tag_bare, text_lands}
 
 -- ---- what is read is spelled so
 

@@ -106,3 +106,24 @@ pub record SpelledBy (bytes : List ℕ) (t : Tree Kind) (tokens : List Token) : 
 
 abbrev pub Spells : List ℕ → Tree Kind → Type 0
 Spells bytes t = (tokens : List Token) × SpelledBy bytes t tokens
+
+-- ---- the content of an element
+
+-- the tokens spell the bytes, and say where the children begin and end
+pub record ContentBy (bytes : List ℕ) (children : Trees Kind) (tokens : List Token) : Type 0 where
+  pub each : AllByRecursion (λ x. IsTrue (is_token x)) tokens
+  pub spelled_so : bytes ≡ flat_map spelled tokens
+  pub children_are : brackets [] tokens ≡ bracketing children
+
+-- content: what may stand between STag and ETag
+abbrev pub SpellsContent : List ℕ → Trees Kind → Type 0
+SpellsContent bytes children = (tokens : List Token) × ContentBy bytes children tokens
+
+-- children behind the characters of a text, which make a node unless they are blank
+abbrev pub behind_text : List ℕ → Trees Kind → Trees Kind
+behind_text text children = if list_all is_space text then children else node (Words (encode_utf8_all text)) none children
+
+-- no text goes on there: the end, or a tag
+abbrev pub EndsText : List ℕ → Type 0
+EndsText [] = Unit {0}
+EndsText (b ∷ bytes) = b ≡ 60

@@ -2,5 +2,5 @@ pub mod Grammar
 pub mod Reading
 pub mod Skimming
 pub mod Lexemes
-pub mod Builds
 pub mod Answers
+pub mod Builds

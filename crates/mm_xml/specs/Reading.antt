@@ -1,5 +1,5 @@
 -- Reading from left to right, on bytes: a tag at a time, or all the text up to the next tag.
-use Rattle.std.specs.Prelude.{ℕ, zero, suc, ◌≡◌, List, [], ◌∷◌, ◌++◌, length, take, drop, Bool, false, ◌==◌, ◌&&◌, nat_le, Option, Some, None, if◌then◌else◌}
+use Rattle.std.specs.Prelude.{ℕ, zero, suc, ◌≡◌, List, [], ◌∷◌, ◌++◌, length, take, drop, Bool, true, false, not, ◌==◌, ◌&&◌, nat_le, Option, Some, None, if◌then◌else◌}
 use Rattle.std.specs.List.{list_all, prefix_len}
 use Rattle.std.specs.Str.{bytes_eq}
 use Rattle.mm_tree.specs.declared.Kind.{Kind}
@@ -75,6 +75,12 @@ pub data State : Type 0 where
   Inside : Frame → List Frame → State
   After : Tree Kind → State
 
+-- how many elements are open
+abbrev pub depth_of : State → ℕ
+depth_of Before = 0
+depth_of (Inside f fs) = suc (length fs)
+depth_of (After t) = 0
+
 abbrev pub fresh : Kind → Frame
 fresh kind = record { kind = kind; before = [] }
 
@@ -114,6 +120,13 @@ text_step (After t) text = None
 abbrev pub span_step : State → Span → Option State
 span_step s (Mark tag name) = place_all s (tag_brackets tag name)
 span_step s (Run text) = text_step s text
+
+-- whether a span adds a node inside those elements
+abbrev pub adds_node : Span → Bool
+adds_node (Mark Open name) = true
+adds_node (Mark Empty name) = true
+adds_node (Mark Close name) = false
+adds_node (Run text) = not (list_all is_space text)
 
 -- ---- the whole
 

@@ -1,6 +1,7 @@
-ghost use Rattle.std.specs.Prelude.{◌≡◌, IfOk, IsErrOf};
+ghost use Rattle.std.specs.Prelude.{◌≡◌, ◌<◌, ◌^◌, length, IfOk, IsErrOf, IsTrue};
 ghost use Rattle.mm_tree.specs.declared.Kind.{Kind};
 ghost use Rattle.mm_tree.specs.Trees.{Tree, tree_of};
+ghost use Rattle.mm_tree.specs.Validity.{is_valid_tree};
 ghost use Rattle.mm_xml.specs.Grammar.{Spells};
 ghost use Rattle.mm_xml.specs.Reading.{read_all};
 ghost use Rattle.mm_xml.specs.Builds.{state_of, Gives};
@@ -13,11 +14,8 @@ use crate::token::next_lexeme;
 use mm_tree::Plain;
 use std::alloc::Global;
 
-/// The most levels that a tree may have to be given.
-const MOST_LEVELS: usize = 200;
-
-/// The tree of the bytes, however many levels it has.
-fn whole_tree(alloc: Global, bytes: &[u8]) -> Result<Plain, XmlError>
+/// The tree of the bytes. Stops at the first level too many, whatever follows.
+fn shallow_tree(alloc: Global, bytes: &[u8]) -> Result<Plain, XmlError>
     ensures { Gives result (read_all bytes.now) }
 {
     let mut stack = Stack::new(alloc);
@@ -48,10 +46,17 @@ pub fn read(alloc: Global, bytes: &[u8]) -> Result<Plain, XmlError>
     ensures none { IsErrOf result XmlError.NotXml → (t : Tree Kind) → ¬ Spells bytes.now t }
     // Bytes that are too deep spell a tree of more levels.
     ensures deep { IsErrOf result XmlError.TooDeep → (t : Tree Kind) × Spells bytes.now t × IsTooDeep t }
+    // What is given can be stored.
+    ensures valid { length bytes.now < 2 ^ 32 → IfOk result (λ p. IsTrue (is_valid_tree (tree_of p))) }
 {
-    // The levels are counted first, since a tree that is too deep is never built.
-    if level_count(alloc, bytes)? > MOST_LEVELS {
-        return Err(XmlError::TooDeep);
+    match shallow_tree(alloc, bytes) {
+        Ok(tree) => Ok(tree),
+        Err(XmlError::NotXml) => Err(XmlError::NotXml),
+        Err(XmlError::TooDeep) => {
+            // What is malformed further on is no XML, however deep.
+            level_count(alloc, bytes)?;
+            Err(XmlError::TooDeep)
+        }
+        Err(XmlError::Memory) => Err(XmlError::Memory),
     }
-    whole_tree(alloc, bytes)
 }

@@ -1,9 +1,12 @@
-ghost use Rattle.std.specs.Prelude.{◌≡◌, [], IfOk, Some};
+ghost use Rattle.std.specs.Prelude.{◌≡◌, ◌<◌, ◌≤◌, [], IfOk, IsTrue, not, true, false, Some};
 ghost use Rattle.std.specs.Str.{bytes_eq, IsUtf8};
+ghost use Rattle.std.specs.List.{list_all};
+ghost use Rattle.mm_tree.specs.Characters.{is_space as space_is};
 ghost use Rattle.mm_tree.specs.Trees.{tree_of};
+ghost use Rattle.mm_xml.specs.Answers.{most_levels};
 ghost use Rattle.mm_xml.specs.Grammar.{Begin, End, name_of, tag_brackets};
-ghost use Rattle.mm_xml.specs.Reading.{place, place_all, finished, frame_tree, closed, text_step, span_step, Before};
-ghost use Rattle.mm_xml.specs.Builds.{state_of, frame_of, frames_of, Moves, Ends};
+ghost use Rattle.mm_xml.specs.Reading.{place, place_all, finished, frame_tree, closed, text_step, span_step, Before, Mark, depth_of, adds_node};
+ghost use Rattle.mm_xml.specs.Builds.{state_of, frame_of, frames_of, Moves, Steps, Ends};
 ghost use Rattle.mm_xml.specs.Lexemes.{span_of, held};
 
 use crate::error::XmlError;
@@ -12,6 +15,9 @@ use crate::token::{Lexeme, Tag};
 use mm_list::Items;
 use mm_tree::{Kind, Plain, Text};
 use std::alloc::{AllocError, Global};
+
+/// The most levels that a tree may have. A text counts as a level.
+const MOST_LEVELS: usize = 200;
 
 /// An element that is open, and its children so far.
 #[derive(Drop)]
@@ -58,7 +64,7 @@ impl Opened {
         ensures { result ≡ bytes_eq name.now (name_of self.now.kind) }
     {
         match &self.kind {
-            Kind::Element { name: own, .. } => name == own.as_str().as_bytes(),
+            Kind::Element { name: own, .. } => name == own.as_bytes(),
             Kind::Words { .. } => name.is_empty(),
         }
     }
@@ -90,9 +96,20 @@ impl Stack {
         }
     }
 
-    fn begin(&mut self, alloc: Global, kind: Kind) -> Result<(), XmlError>
-        ensures { Moves result (state_of self.new) (place (state_of self.old) (Begin kind)) }
+    /// Whether a node inside the open elements would be on a level too many.
+    fn is_full(&self) -> bool
+        ensures full { IsTrue result → most_levels ≤ depth_of (state_of self.now) }
+        ensures room { result ≡ false → depth_of (state_of self.now) < most_levels }
     {
+        self.frames.len() >= MOST_LEVELS
+    }
+
+    fn begin(&mut self, alloc: Global, kind: Kind) -> Result<(), XmlError>
+        ensures { Steps result true (state_of self.old) (state_of self.new) (place (state_of self.old) (Begin kind)) }
+    {
+        if self.is_full() {
+            return Err(XmlError::TooDeep);
+        }
         if self.frames.is_empty() && self.whole.is_some() {
             return Err(XmlError::NotXml);
         }
@@ -135,25 +152,33 @@ impl Stack {
     /// Puts the text between two tags into its place.
     fn text(&mut self, alloc: Global, text: &[u8]) -> Result<(), XmlError>
         requires { IsUtf8 text.now }
-        ensures { Moves result (state_of self.new) (text_step (state_of self.old) text.now) }
+        ensures { Steps result (not (list_all space_is text.now)) (state_of self.old) (state_of self.new) (text_step (state_of self.old) text.now) }
     {
+        if is_blank(text) {
+            return if self.frames.is_empty() {
+                Err(XmlError::NotXml)
+            } else {
+                Ok(())
+            };
+        }
+        if self.is_full() {
+            return Err(XmlError::TooDeep);
+        }
         let Some(mut outer) = self.frames.pop() else {
             return Err(XmlError::NotXml);
         };
-        if !is_blank(text) {
-            let text = text_of(alloc, text)?;
-            outer.children.push(Plain {
-                kind: Kind::Words { text },
-                children: Items::new(alloc),
-            })?;
-        }
+        let text = text_of(alloc, text)?;
+        outer.children.push(Plain {
+            kind: Kind::Words { text },
+            children: Items::new(alloc),
+        })?;
         self.frames.push(outer)?;
         Ok(())
     }
 
     fn open(&mut self, alloc: Global, name: &[u8]) -> Result<(), XmlError>
         requires { IsUtf8 name.now }
-        ensures { Moves result (state_of self.new) (place_all (state_of self.old) (tag_brackets Tag.Open name.now)) }
+        ensures { Steps result true (state_of self.old) (state_of self.new) (place_all (state_of self.old) (tag_brackets Tag.Open name.now)) }
     {
         let name = text_of(alloc, name)?;
         self.begin(
@@ -167,7 +192,7 @@ impl Stack {
 
     fn tag(&mut self, alloc: Global, tag: Tag, name: &[u8]) -> Result<(), XmlError>
         requires { IsUtf8 name.now }
-        ensures { Moves result (state_of self.new) (place_all (state_of self.old) (tag_brackets tag name.now)) }
+        ensures { Steps result (adds_node (Mark tag name.now)) (state_of self.old) (state_of self.new) (place_all (state_of self.old) (tag_brackets tag name.now)) }
     {
         match tag {
             Tag::Open => self.open(alloc, name),
@@ -182,7 +207,7 @@ impl Stack {
     /// Takes the next lexeme in.
     pub fn step(&mut self, alloc: Global, lexeme: Lexeme<'_>) -> Result<(), XmlError>
         requires { IsUtf8 (held (span_of lexeme)) }
-        ensures { Moves result (state_of self.new) (span_step (state_of self.old) (span_of lexeme.entry)) }
+        ensures { Steps result (adds_node (span_of lexeme.entry)) (state_of self.old) (state_of self.new) (span_step (state_of self.old) (span_of lexeme.entry)) }
     {
         match lexeme {
             Lexeme::Tagged(tag, name) => self.tag(alloc, tag, name),

@@ -1,0 +1,139 @@
+use super::Forest;
+use crate::node::Node;
+use crate::plain::{Kind, Plain};
+use crate::refusal::{Refusal, TreeError};
+use crate::text::Text;
+use mm_list::Items;
+use std::alloc::{AllocError, Global};
+use std::test::Fail;
+
+fn element(alloc: Global, name: &str, children: Vec<Plain>) -> Result<Plain, AllocError> {
+    Ok(Plain {
+        kind: Kind::Element {
+            name: Text::from_str(alloc, name)?,
+            attributes: Items::new(alloc),
+        },
+        children: Items::from_vec(children),
+    })
+}
+
+fn words(alloc: Global, text: &str) -> Result<Plain, AllocError> {
+    Ok(Plain {
+        kind: Kind::Words {
+            text: Text::from_str(alloc, text)?,
+        },
+        children: Items::new(alloc),
+    })
+}
+
+fn titled(alloc: Global, name: &str, text: &str) -> Result<Plain, AllocError> {
+    let inner = vec![in alloc; words(alloc, text)?]?;
+    element(alloc, name, inner)
+}
+
+fn book(alloc: Global, title: &str, author: &str) -> Result<Plain, AllocError> {
+    let title = titled(alloc, "title", title)?;
+    let author = titled(alloc, "author", author)?;
+    element(alloc, "book", vec![in alloc; title, author]?)
+}
+
+fn bibliography(alloc: Global) -> Result<Plain, AllocError> {
+    let first = book(alloc, "XML search", "Liu")?;
+    let second = book(alloc, "Keyword search", "Chen")?;
+    element(alloc, "bib", vec![in alloc; first, second]?)
+}
+
+/// So many elements, each in the one before.
+fn chain(alloc: Global, levels: u8) -> Result<Plain, AllocError> {
+    let mut tree = element(alloc, "a", Vec::new(alloc))?;
+    for _ in 1..levels {
+        tree = element(alloc, "a", vec![in alloc; tree]?)?;
+    }
+    Ok(tree)
+}
+
+/// An element with so many empty elements, and the tree as the last child.
+fn fan(alloc: Global, empty: u32, last: Plain) -> Result<Plain, AllocError> {
+    let mut children = Vec::new(alloc);
+    for _ in 0..empty {
+        children.push(element(alloc, "a", Vec::new(alloc))?)?;
+    }
+    children.push(last)?;
+    element(alloc, "a", children)
+}
+
+fn below(node: &Node, at: usize) -> Result<&Node, &'static str> {
+    node.children.as_slice().get(at).ok_or("no such child")
+}
+
+#[test]
+fn a_bibliography_is_loaded_three_times(rt: HostRuntime) -> Result<(), Fail> {
+    let alloc = rt.alloc();
+    let mut forest = Forest::new(alloc);
+    for label in ["1", "3", "5"] {
+        let done = forest.load(alloc, bibliography(alloc)?)?;
+        assert_eq!(rt; done.label.text(alloc)?.as_str(), label);
+        assert_eq!(rt; done.nodes, 11);
+    }
+    assert_eq!(rt; forest.trees().len(), 3);
+    let bib = forest.trees().first().ok_or("no tree")?;
+    let chen = below(below(below(bib, 1)?, 1)?, 0)?;
+    assert_eq!(rt; chen.label.text(alloc)?.as_str(), "1.3.3.1");
+    let Kind::Words { text } = &chen.kind else {
+        return Err("not a text")?;
+    };
+    assert_eq!(rt; text.as_str(), "Chen");
+    Ok(())
+}
+
+#[test]
+fn the_first_cause_is_refused(rt: HostRuntime) -> Result<(), Fail> {
+    let alloc = rt.alloc();
+    let mut forest = Forest::new(alloc);
+    let text = forest.load(alloc, words(alloc, "b")?);
+    assert_eq!(rt; text.err(), Some(TreeError::Refused(Refusal::Top)));
+    let deep = forest.load(alloc, chain(alloc, 201)?);
+    assert_eq!(rt; deep.err(), Some(TreeError::Refused(Refusal::Deep)));
+    assert_eq!(rt; forest.trees().len(), 0);
+    let done = forest.load(alloc, chain(alloc, 200)?)?;
+    assert_eq!(rt; done.nodes, 200);
+    Ok(())
+}
+
+/// A tree whose longest label takes 511 bytes more than one of so many levels: from the 33rd child
+/// on a label takes two bytes more than its parent's, from the 4,129th on five.
+fn long(alloc: Global, levels: u8) -> Result<Plain, AllocError> {
+    let mut tree = chain(alloc, levels)?;
+    for _ in 0..158u8 {
+        tree = fan(alloc, 32, tree)?;
+    }
+    for _ in 0..39u8 {
+        tree = fan(alloc, 4128, tree)?;
+    }
+    Ok(tree)
+}
+
+#[test]
+fn a_label_of_513_bytes_has_no_room(rt: HostRuntime) -> Result<(), Fail> {
+    let alloc = rt.alloc();
+    let mut forest = Forest::new(alloc);
+    let done = forest.load(alloc, long(alloc, 1)?)?;
+    assert_eq!(rt; done.nodes, 166_246);
+    let full = forest.load(alloc, long(alloc, 2)?);
+    assert_eq!(rt; full.err(), Some(TreeError::Refused(Refusal::Room)));
+    assert_eq!(rt; forest.trees().len(), 1);
+    Ok(())
+}
+
+#[test]
+fn a_wide_tree_is_loaded(rt: HostRuntime) -> Result<(), Fail> {
+    let alloc = rt.alloc();
+    let mut forest = Forest::new(alloc);
+    let last = element(alloc, "b", Vec::new(alloc))?;
+    let done = forest.load(alloc, fan(alloc, 199_999, last)?)?;
+    assert_eq!(rt; done.nodes, 200_001);
+    let root = forest.trees().first().ok_or("no tree")?;
+    let last = below(root, 199_999)?;
+    assert_eq!(rt; last.label.text(alloc)?.as_str(), "1.399999");
+    Ok(())
+}

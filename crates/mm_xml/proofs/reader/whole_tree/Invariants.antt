@@ -1,8 +1,0 @@
-use Rattle.std.proofs.Common.{◌≡◌, ◌-◌, length}
-use Rattle.mm_xml.specs.Reading.{read_from, read_all}
-use Rattle.mm_xml.specs.Builds.{state_of}
-use Rattle.mm_xml.proofs.reader.whole_tree.Given as goal
-
--- what is read from here on is what is read from the start
-abbrev pub invariant-loop : goal.invariant-loop
-invariant-loop l = read_from (length l.bytes - l.counter) (state_of l.stack) l.rest ≡ read_all l.bytes
