@@ -219,6 +219,10 @@ pub record IsMade (bytes : List ℕ) (x : List ℤ) : Type 0 where
   pub same : components bytes ≡ x
   pub label : IsLabel x
 
+-- bytes that are those of a label stand for it
+pub made_is : (x : List ℤ) (bytes : List ℕ) → IsLabel x → bytes ≡ bytes_of x → IsMade bytes x
+made_is x bytes h e = record { spelled = subst IsSpelled (sym e) (spelled_is x h); same = ap components e ∙ components_again x h.in_range; label = h }
+
 pub child_is : (front seg : List ℤ) (start bytes : List ℕ) → start ≡ bytes_of front → bytes ≡ start ++ bytes_of seg → IsTrue (all_in_range front) → IsTrue (all_in_range seg) → IsTrue (is_segment seg) → length bytes ≤ 512 → IsMade bytes (front ++ seg)
 child_is front seg start bytes e f h k s le =
     let p : bytes ≡ bytes_of (front ++ seg) = f ∙ ap (λ zs. zs ++ bytes_of seg) e ∙ sym (bytes_of-append front seg) in
@@ -351,7 +355,7 @@ cut_facts bytes n h k =
       taken = ap (λ zs. take n zs) e ∙ take_at (bytes_of k.front) (bytes_of k.seg) n (sym k.size);
     }
 
-front_all : (a b : List ℤ) → IsTrue (all_in_range (a ++ b)) → IsTrue (all_in_range a)
+pub front_all : (a b : List ℤ) → IsTrue (all_in_range (a ++ b)) → IsTrue (all_in_range a)
 front_all [] b h = refl
 front_all (c ∷ a) b h = let p = both (is_in_range c) (all_in_range (a ++ b)) h in and_true (is_in_range c) (all_in_range a) p.0 (front_all a b p.1)
 

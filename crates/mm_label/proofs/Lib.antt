@@ -5,3 +5,4 @@ pub mod HeldFacts
 pub mod Pushing
 pub mod BetweenFacts
 pub mod Texts
+pub mod Shared

@@ -69,3 +69,8 @@ pub record StartsLastSegment (bytes : List ℕ) (n : ℕ) : Type 0 where
   pub seg : List ℤ
   pub last : IsLastSegment (components bytes) front seg
   pub size : n ≡ length (bytes_of front)
+
+-- a component at the front of both, and the bytes after it in each; None where there is none
+abbrev pub FindsBoth : Option (ℤ × Bor (List ℕ) × Bor (List ℕ)) → Found → Found → Type 0
+FindsBoth None left right = (c : ℤ) (u v : List ℕ) → left ≡ Some (c, u) → right ≡ Some (c, v) → ⊥
+FindsBoth (Some x) left right = (left ≡ Some (x.0, x.1.now)) × (right ≡ Some (x.0, x.2.now))

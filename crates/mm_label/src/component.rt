@@ -1,3 +1,5 @@
+//! Components: their range, and how they are read from bytes.
+
 ghost use Rattle.std.specs.Prelude.{◌≡◌, ◌<◌, IsTrue, IfOk};
 ghost use Rattle.mm_label.specs.Bytes.{rank};
 ghost use Rattle.mm_label.specs.Label.{is_odd, is_in_range};
@@ -69,25 +71,14 @@ fn four(n: u64, bytes: &[u8]) -> Option<(i64, &[u8])>
 pub fn component_at(bytes: &[u8]) -> Option<(i64, &[u8])>
     ensures { Finds result (component_at bytes.now) }
 {
-    match bytes {
-        [b, rest @ ..] => {
-            let b = *b as u64;
-            if b < 0x1f {
-                None
-            } else if b < 0x20 {
-                four(0, rest)
-            } else if b < 0x40 {
-                low(4294967296 + (b - 0x20) * 256, rest)
-            } else if b < 0xc0 {
-                Some((of_rank(4294975488 + (b - 0x40)), rest))
-            } else if b < 0xe0 {
-                low(4294975616 + (b - 0xc0) * 256, rest)
-            } else if b < 0xe1 {
-                four(4294983808, rest)
-            } else {
-                None
-            }
-        }
+    let (first, rest) = bytes.split_first()?;
+    let first = *first as u64;
+    match first {
+        0x1f => four(0, rest),
+        0x20..=0x3f => low(4294967296 + (first - 0x20) * 256, rest),
+        0x40..=0xbf => Some((of_rank(4294975488 + (first - 0x40)), rest)),
+        0xc0..=0xdf => low(4294975616 + (first - 0xc0) * 256, rest),
+        0xe0 => four(4294983808, rest),
         _ => None,
     }
 }
@@ -96,7 +87,7 @@ pub fn component_at(bytes: &[u8]) -> Option<(i64, &[u8])>
 pub fn components(alloc: Global, bytes: &[u8]) -> Result<Vec<i64>, AllocError>
     ensures { IfOk result (λ v. v.items ≡ components bytes.now) }
 {
-    let mut found = Vec::new(alloc);
+    let mut found = Vec::with_capacity(alloc, bytes.len())?;
     let mut rest = bytes;
     while let Some((c, after)) = component_at(rest) {
         found.push(c)?;

@@ -1,10 +1,12 @@
+//! Why a call gives no label and no segment.
+
 ghost use Rattle.std.specs.Prelude.{◌≡◌};
 
 use std::alloc::AllocError;
 use thiserror::Error;
 
 /// Why there is no label, or no segment.
-#[derive(Debug, Drop, Error)]
+#[derive(Clone, Copy, Debug, PartialEq, Eq, Error)]
 pub enum LabelError {
     /// The text is not the canonical text of a label.
     #[error("not a label")]

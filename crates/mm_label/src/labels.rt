@@ -1,26 +1,30 @@
-ghost use Rattle.std.specs.Prelude.{◌≡◌, ◌++◌, ◌≤◌, ◌↔◌, length, IsTrue, MatchBool, MatchOption, IfOk, IfErr, option_map, refl, List, ℤ, string_bytes};
+//! Labels, held as their bytes.
+
+ghost use Rattle.std.specs.Prelude.{◌≡◌, ◌++◌, ◌≤◌, ◌↔◌, length, IsTrue, MatchBool, MatchOption, IfOk, IfErr, option_map, refl, List, ℤ, string_bytes, [], ◌<◌};
 ghost use Rattle.std.specs.Ordering.{int_cmp, int_eq, as_partial_cmp};
 ghost use Rattle.std.specs.Cmp.{int_cmp_total, int_eq_equiv, partial_equiv_from_equiv, partial_order_from_agreeing_total};
 ghost use Rattle.std.specs.Cmp.Lexicographic.{lists_total, lists_equiv, lists_ties, pointwise, slice_cmp};
 ghost use Rattle.std.proofs.Common.{rules};
 ghost use Rattle.mm_label.specs.Bytes.{bytes_of};
-ghost use Rattle.mm_label.specs.Label.{IsLabel, IsAncestorOrSelf, IsParent, IsSegment, IsLastSegment, SpellsNoLabel, level, all_in_range};
-ghost use Rattle.mm_label.specs.Reading.{IsSpelled, StartsLastSegment, components};
+ghost use Rattle.mm_label.specs.Label.{IsLabel, IsAncestorOrSelf, IsParent, IsSegment, IsLastSegment, SpellsNoLabel, level, lca, all_in_range};
+ghost use Rattle.mm_label.specs.Reading.{components};
 ghost use Rattle.mm_label.specs.Text.{text_of};
-ghost use Rattle.mm_label.specs.Answers.{RefusesLabel, front_of};
+ghost use Rattle.mm_label.specs.Answers.{RefusesLabel, RefusesText, front_of};
 
-use crate::component::{component_at, components, is_odd};
-use crate::decimal::text_of;
+use crate::component::components;
+use crate::decimal::{read, text_of};
 use crate::error::LabelError;
-use crate::spelling::push_spelled;
+use crate::spelling::{MOST_BYTES, Spelled, push_spelled};
+use crate::walk::{common_length, is_label, odd_count, segment_start};
 use std::alloc::{AllocError, Global};
 use std::cmp::Ordering;
 use std::marker::Model;
 
-/// A label, seen as the list of its components. It holds the bytes that spell it.
+/// A label, seen as the list of its components. It holds the bytes that spell it, and where they are
+/// at most 16, as mostly, takes no memory of its own.
 #[derive(Debug, Drop)]
 pub struct Label {
-    bytes: Vec<u8>,
+    bytes: Spelled,
 }
 
 impl Model for Label {
@@ -35,62 +39,29 @@ impl Model for Label {
     ghost invariant = { λ a. IsSpelled a.bytes.items };
 }
 
-/// Whether the bytes spell a label.
-fn is_label(bytes: &[u8]) -> bool
-    ensures { MatchBool result (IsSpelled bytes.now) (SpellsNoLabel bytes.now) }
-{
-    if bytes.len() > 512 {
-        return false;
-    }
-    let mut rest = bytes;
-    let mut odd = false;
-    while !rest.is_empty() {
-        match component_at(rest) {
-            Some((c, after)) => {
-                odd = is_odd(c);
-                rest = after;
-            }
-            None => return false,
-        }
-    }
-    odd
-}
-
-/// How many of the components are odd.
-fn odd_count(bytes: &[u8]) -> u32
-    requires { IsSpelled bytes.now }
-    ensures { result ≡ level (components bytes.now) }
-{
-    let mut count = 0;
-    let mut rest = bytes;
-    while let Some((c, after)) = component_at(rest) {
-        if is_odd(c) {
-            count += 1;
-        }
-        rest = after;
-    }
-    count
-}
-
-/// How many bytes stand before the last segment.
-fn segment_start(bytes: &[u8]) -> usize
-    requires { IsSpelled bytes.now }
-    ensures { StartsLastSegment bytes.now result }
-{
-    let mut cut = 0;
-    let mut odd = false;
-    let mut rest = bytes;
-    while let Some((c, after)) = component_at(rest) {
-        if odd {
-            cut = bytes.len() - rest.len();
-        }
-        odd = is_odd(c);
-        rest = after;
-    }
-    cut
-}
-
 impl Label {
+    /// The label that has this canonical text: the components in decimal, joined by full stops, with
+    /// `-` before negative ones, no leading zero and no `-0`.
+    pub fn parse(alloc: Global, text: &str) -> Result<Label, LabelError>
+        ensures value { IfOk result (λ a. text_of a ≡ text.now) }
+        ensures label { IfOk result IsLabel }
+        ensures refused { IfErr result (λ e. RefusesText e text.now) }
+    {
+        let Some(components) = read(alloc, text)? else {
+            return Err(LabelError::NotALabel);
+        };
+        let canonical = text_of(alloc, components.as_slice())?;
+        if canonical.as_str() != text {
+            return Err(LabelError::NotALabel);
+        }
+        let mut bytes = Spelled::new(alloc);
+        push_spelled(&mut bytes, components.as_slice())?;
+        if !is_label(bytes.as_slice()) {
+            return Err(LabelError::NotALabel);
+        }
+        Ok(Label { bytes })
+    }
+
     /// The label that the bytes spell, or None where they spell no label.
     pub fn from_bytes(alloc: Global, bytes: &[u8]) -> Result<Option<Label>, AllocError>
         ensures { IfOk result (λ found. MatchOption found (SpellsNoLabel bytes.now) (λ a. IsLabel a × (bytes_of a ≡ bytes.now))) }
@@ -98,7 +69,7 @@ impl Label {
         if !is_label(bytes) {
             return Ok(None);
         }
-        let mut held = Vec::new(alloc);
+        let mut held = Spelled::new(alloc);
         held.extend_from_slice(bytes)?;
         Ok(Some(Label { bytes: held }))
     }
@@ -135,7 +106,7 @@ impl Label {
         if cut == 0 {
             return Ok(None);
         }
-        let mut bytes = Vec::new(alloc);
+        let mut bytes = Spelled::new(alloc);
         bytes.extend_from_slice(&self.bytes.as_slice()[..cut])?;
         Ok(Some(Label { bytes }))
     }
@@ -161,7 +132,7 @@ impl Label {
     pub fn copy(&self, alloc: Global) -> Result<Label, AllocError>
         ensures { IfOk result (λ a. a ≡ self.now) }
     {
-        let mut bytes = Vec::new(alloc);
+        let mut bytes = Spelled::new(alloc);
         bytes.extend_from_slice(self.bytes.as_slice())?;
         Ok(Label { bytes })
     }
@@ -213,16 +184,16 @@ impl Ord for Label {
     }
 }
 
-/// The bytes before the segment.
-fn front_bytes(alloc: Global, parent: Option<&Label>) -> Result<Vec<u8>, AllocError>
-    ensures value { IfOk result (λ v. v.items ≡ bytes_of (front_of (option_map (λ p. p.now) parent.entry))) }
+/// The bytes before the segment: the parent's, or none.
+fn front_bytes(parent: Option<&Label>) -> &[u8]
+    ensures value { result.now ≡ bytes_of (front_of (option_map (λ p. p.now) parent.entry)) }
     ensures in_range { IsTrue (all_in_range (front_of (option_map (λ p. p.now) parent.entry))) }
+    ensures short { length result.now ≤ 512 }
 {
-    let mut bytes = Vec::new(alloc);
-    if let Some(label) = parent {
-        bytes.extend_from_slice(label.as_bytes())?;
+    match parent {
+        Some(label) => label.as_bytes(),
+        None => &[],
     }
-    Ok(bytes)
 }
 
 /// The label below the parent whose last segment this is; without a parent, the label of level 1.
@@ -232,11 +203,29 @@ pub fn child(alloc: Global, parent: Option<&Label>, segment: &[i64]) -> Result<L
     ensures label { IfOk result IsLabel }
     ensures refused { IfErr result (λ e. RefusesLabel e (front_of (option_map (λ p. p.now) parent.entry) ++ segment.now)) }
 {
-    let mut bytes = front_bytes(alloc, parent)?;
+    let front = front_bytes(parent);
+    let mut bytes = Spelled::new(alloc);
+    bytes.extend_from_slice(front)?;
     push_spelled(&mut bytes, segment)?;
-    let length = bytes.len() as u64;
-    if length > 512 {
-        return Err(LabelError::Full { length });
+    let length = bytes.len();
+    if length > MOST_BYTES {
+        return Err(LabelError::Full {
+            length: length as u64,
+        });
     }
     Ok(Label { bytes })
+}
+
+/// The lowest label that is an ancestor of both or one of them: their longest common front of whole
+/// segments. None where they have none.
+pub fn lca(alloc: Global, a: &Label, b: &Label) -> Result<Option<Label>, AllocError>
+    ensures { IfOk result (λ found. MatchOption found (lca a.now b.now ≡ []) (λ x. (x ≡ lca a.now b.now) × IsLabel x)) }
+{
+    let length = common_length(a.bytes.as_slice(), b.bytes.as_slice());
+    if length == 0 {
+        return Ok(None);
+    }
+    let mut bytes = Spelled::new(alloc);
+    bytes.extend_from_slice(&a.bytes.as_slice()[..length])?;
+    Ok(Some(Label { bytes }))
 }

@@ -4,7 +4,8 @@ ghost use Rattle.std.specs.Prelude.{◌≡◌, ◌↔◌, List, ℤ, Option, IsT
 ghost use Rattle.std.specs.Cmp.Lexicographic.{slice_cmp};
 ghost use Rattle.std.specs.Ordering.{nat_cmp, int_cmp};
 ghost use Rattle.mm_label.specs.Bytes.{bytes_of};
-ghost use Rattle.mm_label.specs.Label.{IsLabel, IsAncestorOrSelf, IsPrefix, is_segment};
+ghost use Rattle.mm_label.specs.Label.{IsLabel, IsAncestorOrSelf, IsPrefix, is_segment, lca};
+ghost use Rattle.mm_label.specs.Text.{text_of};
 ghost use Rattle.mm_label.specs.Between.{between, IsOrdered, LiesBetween};
 
 /// Byte order is label order.
@@ -22,8 +23,19 @@ pub fn one_label()
     ensures { (a b : List ℤ) → IsLabel a → IsLabel b → bytes_of a ≡ bytes_of b → a ≡ b }
 {}
 
+/// A text is the canonical text of at most one label.
+pub fn one_text()
+    ensures { (a b : List ℤ) → IsLabel a → IsLabel b → text_of a ≡ text_of b → a ≡ b }
+{}
+
 /// What stands between two neighbours is a segment, above the left one and below the right one.
 pub fn lies_between()
     ensures { (l r : Option (List ℤ)) → IfSome l (λ s. IsTrue (is_segment s)) → IfSome r (λ s. IsTrue (is_segment s))
         → IsOrdered l r → LiesBetween l (between l r) r }
+{}
+
+/// A label is an ancestor of both or one of them exactly where it is their lowest common ancestor or
+/// an ancestor of it.
+pub fn lowest_common_ancestor()
+    ensures { (a b z : List ℤ) → IsLabel z → (IsAncestorOrSelf z a × IsAncestorOrSelf z b) ↔ IsAncestorOrSelf z (lca a b) }
 {}

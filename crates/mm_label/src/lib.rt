@@ -13,7 +13,11 @@ mod gap;
 mod labels;
 pub mod laws;
 mod spelling;
+mod walk;
 
 pub use error::LabelError;
 pub use gap::between;
-pub use labels::{Label, child};
+pub use labels::{Label, child, lca};
+
+#[cfg(test)]
+mod tests;

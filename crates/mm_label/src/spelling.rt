@@ -1,11 +1,20 @@
+//! Components written as bytes.
+
 ghost use Rattle.std.specs.Prelude.{◌≡◌, ◌++◌, ◌<◌, IsTrue, OnOk};
 ghost use Rattle.mm_label.specs.Bytes.{spelling, one, two, five, bytes_of};
 ghost use Rattle.mm_label.specs.Label.{all_in_range};
 
 use crate::component::rank;
+use smallvec::SmallVec;
 use std::alloc::AllocError;
 
-fn push_one(out: &mut Vec<u8>, first: u64, n: u64) -> Result<(), AllocError>
+/// The most bytes that a label has.
+pub const MOST_BYTES: usize = 512;
+
+/// The bytes of a label. Most labels are short, and take no memory of their own.
+pub type Spelled = SmallVec<u8, 16>;
+
+fn push_one(out: &mut Spelled, first: u64, n: u64) -> Result<(), AllocError>
     requires n { n < 128 }
     requires first { first < 128 }
     ensures { OnOk result (out.new.items ≡ out.old.items ++ one first n) }
@@ -14,7 +23,7 @@ fn push_one(out: &mut Vec<u8>, first: u64, n: u64) -> Result<(), AllocError>
     Ok(())
 }
 
-fn push_two(out: &mut Vec<u8>, first: u64, n: u64) -> Result<(), AllocError>
+fn push_two(out: &mut Spelled, first: u64, n: u64) -> Result<(), AllocError>
     requires n { n < 8192 }
     requires first { first < 224 }
     ensures { OnOk result (out.new.items ≡ out.old.items ++ two first n) }
@@ -24,7 +33,7 @@ fn push_two(out: &mut Vec<u8>, first: u64, n: u64) -> Result<(), AllocError>
     Ok(())
 }
 
-fn push_five(out: &mut Vec<u8>, first: u64, n: u64) -> Result<(), AllocError>
+fn push_five(out: &mut Spelled, first: u64, n: u64) -> Result<(), AllocError>
     requires n { n < 4294967296 }
     requires first { first < 256 }
     ensures { OnOk result (out.new.items ≡ out.old.items ++ five first n) }
@@ -35,7 +44,7 @@ fn push_five(out: &mut Vec<u8>, first: u64, n: u64) -> Result<(), AllocError>
 }
 
 /// Puts the bytes of the component of this rank behind the others.
-fn push_spelling(out: &mut Vec<u8>, n: u64) -> Result<(), AllocError>
+fn push_spelling(out: &mut Spelled, n: u64) -> Result<(), AllocError>
     requires { n < 8589951104 }
     ensures { OnOk result (out.new.items ≡ out.old.items ++ spelling n) }
 {
@@ -58,15 +67,12 @@ fn push_spelling(out: &mut Vec<u8>, n: u64) -> Result<(), AllocError>
 }
 
 /// Puts the bytes of the components behind the others.
-pub fn push_spelled(out: &mut Vec<u8>, components: &[i64]) -> Result<(), AllocError>
+pub fn push_spelled(out: &mut Spelled, components: &[i64]) -> Result<(), AllocError>
     requires { IsTrue (all_in_range components.now) }
     ensures { OnOk result (out.new.items ≡ out.old.items ++ bytes_of components.now) }
 {
-    match components {
-        [c, rest @ ..] => {
-            push_spelling(out, rank(*c))?;
-            push_spelled(out, rest)
-        }
-        _ => Ok(()),
+    for c in components {
+        push_spelling(out, rank(*c))?;
     }
+    Ok(())
 }

@@ -1,80 +1,63 @@
-ghost use Rattle.std.specs.Prelude.{◌≡◌, [], ◌++◌, ◌∷◌, ◌↔◌, ◌<◌, IfOk, OnOk, OnErr, IsTrue, length, string_bytes, encode_utf8};
+ghost use Rattle.std.specs.Prelude.{◌≡◌, [], ◌↔◌, IfOk, IsTrue, length};
 
+use smallvec::SmallVec;
 use std::alloc::{AllocError, Global};
 use std::marker::Model;
 
-/// A text in UTF-8. Contracts see it as its bytes.
-#[derive(Debug, Drop)]
+/// A text in UTF-8. Contracts see it as its bytes. A text of at most 16 bytes, as most names are, takes no
+/// memory of its own.
+#[derive(Drop)]
 pub struct Text {
-    inner: String,
+    bytes: SmallVec<u8, 16>,
 }
 
 impl Model for Text {
-    ghost use Rattle.std.specs.Prelude.{List, ℕ, string_bytes};
+    ghost use Rattle.std.specs.Prelude.{List, ℕ, IsTrue};
+    ghost use Rattle.std.specs.Str.{is_utf8};
 
     ghost Value = { List ℕ };
 
-    ghost view = { λ t. string_bytes t.inner };
+    ghost view = { λ t. t.bytes.items };
+
+    ghost invariant = { λ t. IsTrue (is_utf8 t.bytes.items) };
 }
 
 impl Text {
-    /// The empty text. Takes no memory.
-    pub fn new(alloc: Global) -> Text
-        ensures { result ≡ [] }
-    {
-        Text {
-            inner: String::new(alloc),
-        }
-    }
-
     /// A copy of the text.
     pub fn from_str(alloc: Global, text: &str) -> Result<Text, AllocError>
         ensures { IfOk result (λ t. t ≡ text.now) }
     {
-        let inner = String::from_str(alloc, text)?;
-        Ok(Text { inner })
-    }
-
-    /// The same text. Takes no memory.
-    pub fn from_string(text: String) -> Text
-        ensures { result ≡ string_bytes text }
-    {
-        Text { inner: text }
+        let bytes = SmallVec::from_slice(alloc, text.as_bytes())?;
+        Ok(Text { bytes })
     }
 
     /// Lends the text.
     pub fn as_str(&self) -> &str
         ensures { result.now ≡ self.now }
     {
-        self.inner.as_str()
+        match str::from_utf8(self.bytes.as_slice()) {
+            Ok(text) => text,
+            Err(_) => unreachable!(),
+        }
+    }
+
+    /// Lends the bytes of the text.
+    pub fn as_bytes(&self) -> &[u8]
+        ensures { result.now ≡ self.now }
+    {
+        self.bytes.as_slice()
     }
 
     /// Its length in bytes.
     pub fn len(&self) -> usize
         ensures { result ≡ length self.now }
     {
-        self.inner.len()
+        self.bytes.len()
     }
 
     pub fn is_empty(&self) -> bool
         ensures { IsTrue result ↔ (self.now ≡ []) }
     {
-        self.inner.is_empty()
-    }
-
-    /// Puts a character behind the text. An `Err` changes nothing.
-    pub fn push(&mut self, character: char) -> Result<(), AllocError>
-        ensures ok { OnOk result (self.new ≡ self.old ++ encode_utf8 character) }
-        ensures err { OnErr result (self.new ≡ self.old) }
-    {
-        self.inner.push(character)
-    }
-
-    /// Puts a text behind this one. An `Err` changes nothing.
-    pub fn push_str(&mut self, more: &str) -> Result<(), AllocError>
-        ensures ok { OnOk result (self.new ≡ self.old ++ more.now) }
-        ensures err { OnErr result (self.new ≡ self.old) }
-    {
-        self.inner.push_str(more)
+        self.bytes.is_empty()
     }
 }

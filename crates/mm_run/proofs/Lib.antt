@@ -1,0 +1,11 @@
+pub mod Kept
+pub mod Spaces
+pub mod Going
+pub mod Parts
+pub mod Cutting
+pub mod Rows
+pub mod Gathering
+pub mod Heads
+pub mod Unspelled
+pub mod Turns
+pub mod Telling

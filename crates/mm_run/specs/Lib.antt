@@ -1,0 +1,9 @@
+pub mod Lines
+pub mod Forms
+pub mod Payloads
+pub mod Commands
+pub mod Buffer
+pub mod Input
+pub mod Step
+pub mod Answers
+pub mod Run

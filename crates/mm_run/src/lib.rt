@@ -1,0 +1,17 @@
+//! The run of kwstore: cuts its input into commands, answers each, and writes the replies.
+#![tactic(auto)]
+
+mod answering;
+mod buffer;
+mod command;
+mod forms;
+mod line;
+mod payload;
+mod reading;
+mod serving;
+mod status;
+mod top;
+
+pub use command::{Command, Form, Payload};
+pub use status::Status;
+pub use top::run;

@@ -1,0 +1,73 @@
+// Commands, cut from an input.
+ghost use Rattle.std.specs.Prelude.{◌≡◌, [], Err, None};
+ghost use Rattle.mm_run.specs.declared.line.ReadError.TheVariants.{Source};
+ghost use Rattle.mm_run.specs.Input.{rest, reach};
+ghost use Rattle.mm_run.specs.Step.{HasSourceCause, GivesNext, IsLast};
+
+use crate::buffer::Buffer;
+use crate::command::{Command, Payload};
+use crate::forms::{form_of, quits, takes_payload};
+use crate::line::{Ending, ReadError, read_line};
+use crate::payload::next_payload;
+use mm_host::Source;
+use std::alloc::Global;
+
+/// How many bytes of a line are kept: with two more than it may have and a carriage return it is too long.
+const LINE_KEPT: usize = 65_538;
+
+/// What comes next.
+#[derive(Debug, Drop)]
+pub enum Next {
+    Command(Command),
+    /// The end of the input ends it.
+    Last(Command),
+    Quit,
+    End,
+    /// No whole command came in the bytes that may be taken.
+    Full,
+}
+
+/// The command on a line that the end of the input ends.
+fn last_command(line: &[u8]) -> Next
+    ensures { IsLast line.now result }
+{
+    if line.is_empty() {
+        return Next::End;
+    }
+    let form = form_of(line);
+    let payload = if takes_payload(form) {
+        Payload::Cut
+    } else {
+        Payload::Nothing
+    };
+    Next::Last(Command { form, payload })
+}
+
+/// Reads a command.
+pub fn next_command<S: Source>(
+    alloc: Global,
+    source: &mut S,
+    buffer: &mut Buffer,
+) -> Result<Next, ReadError>
+    ensures next { GivesNext None (rest (S.left source.old) buffer.old) (rest (S.left source.new) buffer.new) (reach buffer.old) (reach buffer.new) result }
+    ensures none { result ≡ Err Source → buffer.new.held ≡ [] }
+    ensures cause { HasSourceCause (S.fault_count source.old) (S.fault_count source.new) result }
+{
+    let mut line = Vec::new(alloc);
+    match read_line(source, buffer, &mut line, LINE_KEPT) {
+        Err(error) => Err(error),
+        Ok(Ending::Full) => Ok(Next::Full),
+        Ok(Ending::Input) => Ok(last_command(&line)),
+        Ok(Ending::Feed) => {
+            let form = form_of(&line);
+            if quits(form) {
+                Ok(Next::Quit)
+            } else if takes_payload(form) {
+                next_payload(alloc, source, buffer, form)
+            } else {
+                let payload = Payload::Nothing;
+                Ok(Next::Command(Command { form, payload }))
+            }
+        }
+    }
+}

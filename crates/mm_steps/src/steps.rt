@@ -1,0 +1,64 @@
+// A counter of steps.
+ghost use Rattle.std.specs.Prelude.{◌≡◌, ℕ, ◌+◌, ◌<◌};
+
+use std::marker::Model;
+use std::sync::ledger::{Blank, Book, Ledger, Share};
+
+/// How many steps were taken so far. It takes no bytes, and only `tick` changes it.
+///
+/// What is a step is said by the trait whose calls tick.
+#[derive(Drop)]
+pub struct Steps<L: Ledger> {
+    book: Book<L>,
+    share: Share<L>,
+}
+
+impl<L: Ledger> Model for Steps<L> {
+    ghost Value = { ℕ };
+
+    ghost view = { λ s. s.book.total };
+
+    ghost invariant = { λ s. 0 < s.share.parts };
+}
+
+impl<L: Ledger> Steps<L> {
+    /// A counter at nought, from a ledger that nothing has written in.
+    pub fn new(blank: Blank) -> Steps<L>
+        requires name { blank.name ≡ L.name }
+        requires parts { blank.parts ≡ L.parts }
+        requires some { 0 < blank.parts }
+        ensures { result ≡ 0 }
+    {
+        let (book, share) = blank.open();
+        Steps { book, share }
+    }
+
+    /// Counts one step.
+    pub fn tick(&mut self)
+        ensures { self.new ≡ self.old + 1 }
+    {
+        self.book.add(&mut self.share, 1);
+    }
+}
+
+#[cfg(test)]
+mod tests {
+    use super::*;
+    use std::marker::Brand;
+
+    fn ticked<L: Ledger>(blank: Blank) -> u8
+        requires name { blank.name ≡ L.name }
+        requires parts { blank.parts ≡ L.parts }
+        requires some { 0 < blank.parts }
+    {
+        let mut steps = Steps::<L>::new(blank);
+        steps.tick();
+        1
+    }
+
+    #[test]
+    fn counts_at_a_brand(rt: HostRuntime) {
+        let count = ticked::<Brand>(Blank::new(1));
+        assert_eq!(rt; count, 1);
+    }
+}

@@ -1,0 +1,10 @@
+pub mod Options
+pub mod Ascii
+pub mod Tokens
+pub mod Machine
+pub mod Runs
+pub mod Whole
+pub mod Levels
+pub mod Productions
+pub mod Valid
+pub mod Answered

@@ -1,0 +1,5 @@
+use Rattle.mm_xml.proofs.Valid as valid
+use Rattle.mm_xml.proofs.laws.valid_tree.Goals as goal
+
+pub returns : goal.returns
+returns c = λ bytes t short s. valid.spelled_valid bytes t short s

@@ -1,0 +1,6 @@
+pub mod Grammar
+pub mod Reading
+pub mod Skimming
+pub mod Lexemes
+pub mod Answers
+pub mod Builds
