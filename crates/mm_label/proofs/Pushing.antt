@@ -1,18 +1,25 @@
 -- What is pushed component by component.
-use Rattle.std.proofs.Common.{◌≡◌, ◌≢◌, ℕ, ◌-◌, ◌≤◌, List, ◌∷◌, ◌++◌, length, get_or, take, drop, ℤ, pos, Bool, true, false, cond, int_eq, refl, sym, ap, ap₂, ◌∙◌, append_assoc, Result, Ok, Err, OnOk, Option}
+use Rattle.std.proofs.Common.{◌≡◌, ◌≢◌, ℕ, ◌-◌, ◌≤◌, List, ◌∷◌, ◌++◌, length, get_or, take, drop, ℤ, pos, Bool, true, false, cond, int_eq, refl, sym, ap, ap₂, ◌∙◌, append_assoc, Result, Ok, Err, OnOk, Option, IsTrue, subst, ◌<◌, ◌+◌, drop-cons, add-one}
 use Rattle.std.proofs.lemmas.Slice.{first_rest}
 use Rattle.std.proofs.lemmas.Bool.Decides.{Decides-int_eq}
 use Rattle.mm_label.specs.Bytes.{rank, spelling, spell}
 use Rattle.mm_label.specs.Bytes.{bytes_of}
+use Rattle.mm_label.specs.Label.{is_in_range, all_in_range}
 use Rattle.mm_label.specs.Between.{apart, inside, one_or_two}
+use Rattle.mm_label.proofs.ByteLaws.{both}
 
 pub cut_first : (cs : List ℤ) → 1 ≤ length cs → cs ≡ get_or cs 0 (pos 0) ∷ take (length cs - 1) (drop 1 cs)
 cut_first cs h = first_rest cs (pos 0) h
 
-pub pushed_more : {U E : Type 0} (r : Result U E) (old mid new : List ℕ) (n : ℕ) (c : ℤ) (rest cs : List ℤ) → cs ≡ c ∷ rest → n ≡ rank c → mid ≡ old ++ spelling n → OnOk r (new ≡ mid ++ bytes_of rest) → OnOk r (new ≡ old ++ bytes_of cs)
-pushed_more (Ok u) old mid new n c rest cs e f g h =
-    h ∙ ap (λ zs. zs ++ bytes_of rest) (g ∙ ap (λ k. old ++ spelling k) f) ∙ append_assoc old (spell c) (bytes_of rest) ∙ ap (λ zs. old ++ bytes_of zs) (sym e)
-pushed_more (Err x) old mid new n c rest cs e f g h = tt
+-- what is left to be spelled after one component more
+pub pushed_next : (cs : List ℤ) (i : ℕ) (out new start : List ℕ) (n : ℕ) → i < length cs → n ≡ rank (get_or cs i (pos 0)) → new ≡ out ++ spelling n
+    → IsTrue (all_in_range (drop i cs)) × (out ++ bytes_of (drop i cs) ≡ start) → IsTrue (all_in_range (drop (i + 1) cs)) × (new ++ bytes_of (drop (i + 1) cs) ≡ start)
+pushed_next cs i out new start n h f g s =
+    let x = get_or cs i (pos 0) in let rest = drop (i + 1) cs in
+    let e : drop i cs ≡ x ∷ rest = drop-cons cs i (pos 0) h ∙ ap (λ k. x ∷ drop k cs) (sym (add-one i)) in (
+      (both (is_in_range x) (all_in_range rest) (subst (λ zs. IsTrue (all_in_range zs)) e s.0)).1,
+      ap (λ zs. zs ++ bytes_of rest) (g ∙ ap (λ k. out ++ spelling k) f) ∙ append_assoc out (spell x) (bytes_of rest) ∙ ap (λ zs. out ++ bytes_of zs) (sym e) ∙ s.1,
+    )
 
 apart_is : (a b : ℤ) (l r : List ℤ) → a ≢ b → inside (a ∷ l) (b ∷ r) ≡ apart a l b r
 apart_is a b l r ne = by_test (int_eq a b) refl

@@ -1,3 +1,5 @@
+//! Components: their range, and how they are read from bytes.
+
 ghost use Rattle.std.specs.Prelude.{◌≡◌, ◌<◌, IsTrue, IfOk};
 ghost use Rattle.mm_label.specs.Bytes.{rank};
 ghost use Rattle.mm_label.specs.Label.{is_odd, is_in_range};
@@ -85,7 +87,7 @@ pub fn component_at(bytes: &[u8]) -> Option<(i64, &[u8])>
 pub fn components(alloc: Global, bytes: &[u8]) -> Result<Vec<i64>, AllocError>
     ensures { IfOk result (λ v. v.items ≡ components bytes.now) }
 {
-    let mut found = Vec::new(alloc);
+    let mut found = Vec::with_capacity(alloc, bytes.len())?;
     let mut rest = bytes;
     while let Some((c, after)) = component_at(rest) {
         found.push(c)?;

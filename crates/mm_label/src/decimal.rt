@@ -1,3 +1,5 @@
+//! The text of components, written and read.
+
 ghost use Rattle.std.specs.Prelude.{◌≡◌, ◌++◌, OnOk, IfOk, ◌==◌, string_bytes, flat_map, map, option_map};
 ghost use Rattle.std.specs.List.{slice_split};
 ghost use Rattle.std.specs.Fmt.{signed_decimal};

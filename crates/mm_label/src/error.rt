@@ -1,3 +1,5 @@
+//! Why a call gives no label and no segment.
+
 ghost use Rattle.std.specs.Prelude.{◌≡◌};
 
 use std::alloc::AllocError;

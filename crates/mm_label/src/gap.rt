@@ -1,3 +1,5 @@
+//! The segment of a new node between two neighbours.
+
 ghost use Rattle.std.specs.Prelude.{◌≡◌, ◌++◌, ◌∷◌, [], IsTrue, OnOk, IfOk, IfErr, OnErr, None, option_map};
 ghost use Rattle.std.specs.Option.{ForSome};
 ghost use Rattle.mm_label.specs.Label.{is_odd, is_in_range, all_in_range, IsSegment};

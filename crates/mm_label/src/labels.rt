@@ -1,3 +1,5 @@
+//! Labels, held as their bytes.
+
 ghost use Rattle.std.specs.Prelude.{◌≡◌, ◌++◌, ◌≤◌, ◌↔◌, length, IsTrue, MatchBool, MatchOption, IfOk, IfErr, option_map, refl, List, ℤ, string_bytes, [], ◌<◌};
 ghost use Rattle.std.specs.Ordering.{int_cmp, int_eq, as_partial_cmp};
 ghost use Rattle.std.specs.Cmp.{int_cmp_total, int_eq_equiv, partial_equiv_from_equiv, partial_order_from_agreeing_total};

@@ -1,3 +1,5 @@
+//! Components written as bytes.
+
 ghost use Rattle.std.specs.Prelude.{◌≡◌, ◌++◌, ◌<◌, IsTrue, OnOk};
 ghost use Rattle.mm_label.specs.Bytes.{spelling, one, two, five, bytes_of};
 ghost use Rattle.mm_label.specs.Label.{all_in_range};
@@ -69,11 +71,8 @@ pub fn push_spelled(out: &mut Spelled, components: &[i64]) -> Result<(), AllocEr
     requires { IsTrue (all_in_range components.now) }
     ensures { OnOk result (out.new.items ≡ out.old.items ++ bytes_of components.now) }
 {
-    match components {
-        [c, rest @ ..] => {
-            push_spelling(out, rank(*c))?;
-            push_spelled(out, rest)
-        }
-        _ => Ok(()),
+    for c in components {
+        push_spelling(out, rank(*c))?;
     }
+    Ok(())
 }

@@ -1,3 +1,5 @@
+//! Vectors of labels, their texts and their neighbours.
+
 ghost use Rattle.std.specs.Prelude.{IfOk, IfSome};
 ghost use Rattle.mm_label.specs.Label.{IsSegment, IsBefore};
 

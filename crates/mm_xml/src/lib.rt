@@ -11,3 +11,6 @@ mod token;
 
 pub use error::XmlError;
 pub use reader::read;
+
+#[cfg(test)]
+mod tests;

@@ -1,0 +1,166 @@
+use crate::{XmlError, read};
+use mm_tree::{Kind, Plain};
+use std::alloc::{AllocError, Global};
+use std::test::Fail;
+
+#[derive(Clone, Copy, Debug, PartialEq, Eq)]
+enum Answer {
+    Tree,
+    NotXml,
+    TooDeep,
+    Memory,
+}
+
+fn outcome(alloc: Global, text: &str) -> Answer {
+    match read(alloc, text.as_bytes()) {
+        Ok(_) => Answer::Tree,
+        Err(XmlError::NotXml) => Answer::NotXml,
+        Err(XmlError::TooDeep) => Answer::TooDeep,
+        Err(XmlError::Memory) => Answer::Memory,
+    }
+}
+
+/// Elements inside one another, and what stands in the innermost.
+fn nested(alloc: Global, levels: usize, inner: &str) -> Result<String, AllocError> {
+    let mut text = String::new(alloc);
+    for _ in 0..levels {
+        text.push_str("<a>")?;
+    }
+    text.push_str(inner)?;
+    for _ in 0..levels {
+        text.push_str("</a>")?;
+    }
+    Ok(text)
+}
+
+fn named(alloc: Global, letters: usize) -> Result<String, AllocError> {
+    let mut text = String::from_str(alloc, "<")?;
+    for _ in 0..letters {
+        text.push_str("n")?;
+    }
+    text.push_str("/>")?;
+    Ok(text)
+}
+
+#[test]
+fn takes_elements_and_texts(rt: HostRuntime) {
+    for text in [
+        "<a/>",
+        "<a></a>",
+        "<Ab9></Ab9>",
+        "<a>b</a>",
+        "<a> \t\n</a>",
+        "<a>b<c/>d</a>",
+        "<a>\"b\" = c; !/?}~</a>",
+        "<a><b>c</b><b></b></a>",
+    ] {
+        assert_eq!(rt; outcome(rt.alloc(), text), Answer::Tree, "at {text}");
+    }
+}
+
+#[test]
+fn refuses_what_is_no_element(rt: HostRuntime) {
+    for text in [
+        "",
+        " ",
+        "a",
+        "<",
+        "<a",
+        "<a/",
+        "<a>",
+        "<a>b",
+        "<a></a",
+        "</a>",
+        "</a><a>",
+        "<a></b>",
+        "<a><b></a></b>",
+        "<a/><b/>",
+        "<a/> ",
+        " <a/>",
+        "<a/>b",
+    ] {
+        assert_eq!(rt; outcome(rt.alloc(), text), Answer::NotXml, "at {text}");
+    }
+}
+
+#[test]
+fn refuses_other_tags_and_characters(rt: HostRuntime) {
+    for text in [
+        "</>",
+        "<1/>",
+        "<a-b/>",
+        "<a:b/>",
+        "< a/>",
+        "<a />",
+        "<a/ >",
+        "<a></a >",
+        "<a b=\"c\"/>",
+        "<a>&lt;</a>",
+        "<a>></a>",
+        "<a>]</a>",
+        "<a>\r</a>",
+        "<a>\u{7f}</a>",
+        "<a>\u{e9}</a>",
+        "<!-- --><a/>",
+        "<?p?><a/>",
+        "<a><![CDATA[b]]></a>",
+    ] {
+        assert_eq!(rt; outcome(rt.alloc(), text), Answer::NotXml, "at {text}");
+    }
+}
+
+#[test]
+fn counts_levels(rt: HostRuntime) -> Result<(), Fail> {
+    for (levels, inner, want) in [
+        (200, "", Answer::Tree),
+        (199, "<b/>", Answer::Tree),
+        (199, "b", Answer::Tree),
+        (200, "\n", Answer::Tree),
+        (201, "", Answer::TooDeep),
+        (200, "<b/>", Answer::TooDeep),
+        (200, "b", Answer::TooDeep),
+        (200, "<b>", Answer::NotXml),
+        (300, "</b>", Answer::NotXml),
+    ] {
+        let text = nested(rt.alloc(), levels, inner)?;
+        assert_eq!(rt;
+            outcome(rt.alloc(), text.as_str()),
+            want,
+            "at {levels} and {inner}"
+        );
+    }
+    Ok(())
+}
+
+#[test]
+fn counts_letters_of_names(rt: HostRuntime) -> Result<(), Fail> {
+    for (letters, want) in [
+        (1, Answer::Tree),
+        (512, Answer::Tree),
+        (513, Answer::NotXml),
+    ] {
+        let text = named(rt.alloc(), letters)?;
+        assert_eq!(rt; outcome(rt.alloc(), text.as_str()), want, "at {letters}");
+    }
+    Ok(())
+}
+
+/// The name of an element, or the text of a text, with the number of its children.
+fn shown(tree: &Plain) -> (&str, usize) {
+    let own = match &tree.kind {
+        Kind::Element { name, .. } => name,
+        Kind::Words { text } => text,
+    };
+    (own.as_str(), tree.children.len())
+}
+
+#[test]
+fn gives_the_tree(rt: HostRuntime) -> Result<(), Fail> {
+    let tree = read(rt.alloc(), b"<a> <b/> x\ny <c>z</c></a>")?;
+    assert!(rt; matches!(shown(&tree), ("a", 3)), "the root");
+    for (at, want) in [(0, "b"), (1, " x\ny "), (2, "c")] {
+        let child = tree.children.get(at).ok_or("a child")?;
+        assert!(rt; shown(child).0.as_bytes() == want.as_bytes(), "at {at}");
+    }
+    Ok(())
+}
