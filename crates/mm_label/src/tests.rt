@@ -73,28 +73,71 @@ fn no_labels(rt: HostRuntime) -> Result<(), Fail> {
     Ok(())
 }
 
+/// How the labels of two texts compare, and whether the first is the second or an ancestor of it.
+fn compared(alloc: Global, left: &str, right: &str) -> Result<(Ordering, bool), LabelError> {
+    let left = Label::parse(alloc, left)?;
+    let right = Label::parse(alloc, right)?;
+    Ok((left.cmp(&right), left.is_prefix(&right)))
+}
+
+#[test]
+fn document_order(rt: HostRuntime) -> Result<(), Fail> {
+    let table = [
+        ("1.9", "1.11", Ordering::Less, false),
+        ("1", "1.2.-1", Ordering::Less, true),
+        ("1.2.-1", "1.9", Ordering::Less, false),
+        ("1.2.-1", "1.2.-1", Ordering::Equal, true),
+        ("1.2.-1", "1", Ordering::Greater, false),
+    ];
+    for (left, right, order, is_prefix) in table {
+        let found = compared(rt.alloc(), left, right)?;
+        assert!(rt; found.0 == order, "{left} and {right}");
+        assert!(rt; found.1 == is_prefix, "{left} above {right}");
+    }
+    Ok(())
+}
+
+/// The level of the label of a text, and whether its parent has the other text, which is empty where
+/// there is no parent.
+fn has_parent(alloc: Global, text: &str, parent: &str) -> Result<(u32, bool), LabelError> {
+    let label = Label::parse(alloc, text)?;
+    let is_found = match label.parent(alloc)? {
+        None => parent.is_empty(),
+        Some(found) => found.text(alloc)?.as_str() == parent,
+    };
+    Ok((label.level(), is_found))
+}
+
+/// Whether the lowest common ancestor of the labels of two texts has this text; the empty text where
+/// they have none.
+fn has_common(alloc: Global, left: &str, right: &str, common: &str) -> Result<bool, LabelError> {
+    let left = Label::parse(alloc, left)?;
+    let right = Label::parse(alloc, right)?;
+    match lca(alloc, &left, &right)? {
+        None => Ok(common.is_empty()),
+        Some(found) => Ok(found.text(alloc)?.as_str() == common),
+    }
+}
+
 #[test]
 fn ancestors(rt: HostRuntime) -> Result<(), Fail> {
-    let alloc = rt.alloc();
-    let top = Label::parse(alloc, "1")?;
-    let ninth = Label::parse(alloc, "1.9")?;
-    let eleventh = Label::parse(alloc, "1.11")?;
-    let careted = Label::parse(alloc, "1.2.-1")?;
-    assert!(rt; ninth < eleventh, "1.9 comes before 1.11");
-    assert!(rt; top < careted && careted < ninth, "a caret comes between");
-    assert_eq!(rt; (top.level(), careted.level()), (1, 2));
-    assert!(rt; top.parent(alloc)?.is_none());
-    let parent = careted.parent(alloc)?.ok_or("no parent")?;
-    assert!(rt; parent == top);
-    assert_eq!(rt; careted.segment(alloc)?.as_slice(), [2, -1].as_slice());
-    assert!(rt; top.is_prefix(&careted) && careted.is_prefix(&careted));
-    assert!(rt; !careted.is_prefix(&top) && !ninth.is_prefix(&eleventh));
-    let common = lca(alloc, &ninth, &careted)?.ok_or("nothing in common")?;
-    assert!(rt; common == top);
-    let other = Label::parse(alloc, "3.9")?;
-    assert!(rt; lca(alloc, &ninth, &other)?.is_none());
-    let below = child(alloc, Some(&ninth), careted.segment(alloc)?.as_slice())?;
-    assert_eq!(rt; below.text(alloc)?.as_str(), "1.9.2.-1");
+    assert_eq!(rt; has_parent(rt.alloc(), "1", "")?, (1, true));
+    assert_eq!(rt; has_parent(rt.alloc(), "1.2.-1", "1")?, (2, true));
+    assert!(rt; has_common(rt.alloc(), "1.9", "1.2.-1", "1")?);
+    assert!(rt; has_common(rt.alloc(), "1.9", "3.9", "")?);
+    Ok(())
+}
+
+/// The text of the child of one label by the last segment of another.
+fn grafted(alloc: Global, parent: &str, other: &str) -> Result<String, LabelError> {
+    let parent = Label::parse(alloc, parent)?;
+    let segment = Label::parse(alloc, other)?.segment(alloc)?;
+    Ok(child(alloc, Some(&parent), segment.as_slice())?.text(alloc)?)
+}
+
+#[test]
+fn a_child_by_a_segment(rt: HostRuntime) -> Result<(), Fail> {
+    assert_eq!(rt; grafted(rt.alloc(), "1.9", "1.2.-1")?.as_str(), "1.9.2.-1");
     Ok(())
 }
 
