@@ -24,10 +24,6 @@ refusal_line r = codes "no " ++ (decimal (number_of r) ++ 32 ∷ (word_of r ++ 1
 abbrev pub loaded_line : List ℤ → ℕ → List ℕ
 loaded_line label count = codes "ok " ++ (text_of label ++ 32 ∷ (decimal count ++ 10 ∷ []))
 
--- the number of a tree's nodes, which stands still at the end of its type
-abbrev pub count_of : Tree Kind → ℕ
-count_of t = min (nodes (one t)) (2 ^ 64 - 1)
-
 -- a command is refused: its line says so, and the forest stays as it was
 pub record Refuses (forest : Trees Labelled) (r : Refusal) (reply : List ℕ) (after : Trees Labelled) : Type 0 where
   pub line : reply ≡ refusal_line r
@@ -35,7 +31,7 @@ pub record Refuses (forest : Trees Labelled) (r : Refusal) (reply : List ℕ) (a
 
 -- a tree is loaded: its line tells its label and its nodes, and it stands behind the others
 pub record Accepts (forest : Trees Labelled) (t : Tree Kind) (reply : List ℕ) (after : Trees Labelled) : Type 0 where
-  pub line : reply ≡ loaded_line (next_label forest) (count_of t)
+  pub line : reply ≡ loaded_line (next_label forest) (nodes (one t))
   pub loaded : after ≡ load t forest
 
 -- why the load of a tree is refused, if it is: it has too many levels, or what the forest says

@@ -1,12 +1,12 @@
 // What a command is answered.
-ghost use Rattle.std.specs.Prelude.{◌≡◌, IfOk, string_bytes, None};
+ghost use Rattle.std.specs.Prelude.{◌≡◌, IfOk, IsTrue, string_bytes, None};
 ghost use Rattle.mm_tree.specs.Trees.{tree_of};
 ghost use Rattle.mm_tree.specs.Numbering.{forest_of};
 ghost use Rattle.mm_run.specs.Answers.{refusal_line, loaded_line, AnswersBy, AnswersBytes, AnswersLoad, Answers};
 ghost use Rattle.mm_tree.specs.Forests.{load_refusal};
+ghost use Rattle.mm_tree.specs.Validity.{is_valid_tree};
 
-use crate::command::{Command, Form, Payload};
-use mm_host::Bytes;
+use crate::command::{Body, Command, Form, Payload};
 use mm_tree::{Done, Forest, Plain, Refusal, TreeError};
 use mm_xml::{XmlError, read};
 use std::alloc::{AllocError, Global};
@@ -29,6 +29,7 @@ fn loaded_line(alloc: Global, done: &Done) -> Result<String, AllocError>
 
 /// Loads a tree.
 fn load_tree(alloc: Global, forest: &mut Forest, tree: Plain) -> Result<String, AllocError>
+    requires { IsTrue (is_valid_tree (tree_of tree)) }
     ensures { IfOk result (λ text. AnswersBy (load_refusal (tree_of tree) (forest_of forest.old)) (forest_of forest.old) (tree_of tree) (string_bytes text) (forest_of forest.new)) }
 {
     match forest.load(alloc, tree) {
@@ -39,7 +40,7 @@ fn load_tree(alloc: Global, forest: &mut Forest, tree: Plain) -> Result<String, 
 }
 
 /// Loads the tree that bytes spell. The bytes are let go before the tree is labelled.
-fn load_bytes(alloc: Global, forest: &mut Forest, bytes: Bytes) -> Result<String, AllocError>
+fn load_bytes(alloc: Global, forest: &mut Forest, bytes: Body) -> Result<String, AllocError>
     ensures { IfOk result (λ text. AnswersBytes (forest_of forest.old) bytes (string_bytes text) (forest_of forest.new)) }
 {
     match read(alloc, bytes.as_slice()) {

@@ -7,15 +7,12 @@ ghost use Rattle.mm_run.specs.Payloads.{closes, unstopped, joined, ended_rows, p
 ghost use Rattle.mm_run.specs.Step.{HasSourceCause, EndsRow, GivesRow, GivesNext};
 
 use crate::buffer::Buffer;
-use crate::command::{Command, Form, Payload};
+use crate::command::{Body, Command, Form, PAYLOAD_LIMIT, Payload};
 use crate::forms::without_return;
 use crate::line::{Ending, ReadError, read_line};
 use crate::reading::Next;
-use mm_host::{Bytes, Source};
+use mm_host::Source;
 use std::alloc::{AllocError, Global};
-
-/// How many bytes a payload has at most.
-const PAYLOAD_LIMIT: usize = 1 << 24;
 
 /// Whether a line ends a payload.
 #[tactic(auto, unfolding(crate::specs::Payloads::closes))]
@@ -123,7 +120,7 @@ fn finished(payload: Vec<u8>) -> Payload
 {
     let mut payload = payload;
     payload.pop();
-    Payload::Whole(Bytes::from_vec(payload))
+    Payload::Whole(Body::from_vec(payload))
 }
 
 /// Reads the rest of a payload that passed its limit.

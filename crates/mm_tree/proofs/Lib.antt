@@ -4,3 +4,4 @@ pub mod LabelledLaws
 pub mod NumberForm
 pub mod LoadFacts
 pub mod OrderLaws
+pub mod TestFacts

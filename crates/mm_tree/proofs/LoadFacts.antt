@@ -22,12 +22,12 @@ use Rattle.mm_tree.specs.declared.plain.Plain.{Plain}
 use Rattle.mm_tree.specs.declared.plain.Plain.TheViews.{out-Plain}
 use Rattle.mm_tree.specs.Trees.{Trees, none, node, Tree, one, every, levels, tree_of, tree_of_out}
 use Rattle.mm_tree.specs.Refusals.{of_label}
-use Rattle.mm_tree.specs.Validity.{is_element}
+use Rattle.mm_tree.specs.Validity.{is_element, is_valid_node, is_valid_tree}
 use Rattle.mm_tree.specs.Numbering.{Labelled, node_of, node_step, forest_of, number, fits, has_room, Labels, Numbers}
-use Rattle.mm_tree.specs.Forests.{rises, are_labelled, are_elements, is_well_formed, and_then, last_segment, next_label, numbered_behind, load, load_refusal, IsRefusal}
+use Rattle.mm_tree.specs.Forests.{rises, are_labelled, has_valid_kind, are_elements, is_well_formed, and_then, last_segment, next_label, numbered_behind, load, load_refusal, IsRefusal}
 use Rattle.mm_tree.proofs.NumberFacts.{both_true, both_parts}
 use Rattle.mm_tree.proofs.LabelledLaws.{parts, at_end, every_behind, elements_behind, levels-and_then}
-use Rattle.mm_tree.proofs.NumberForm.{number_form, levels-number}
+use Rattle.mm_tree.proofs.NumberForm.{number_form, levels-number, valid_numbered}
 
 -- ---- labels that don't fit
 
@@ -180,19 +180,21 @@ rises_is None s h = refl
 rises_is (Some l) s h = ap is_lt h
 
 -- a load keeps a forest well formed
-pub load_formed : (t : Tree Kind) (forest : Trees Labelled) → is_well_formed forest ≡ true → is_element t.0 ≡ true → levels (one t) ≤ 200 → every has_room (numbered_behind forest t) ≡ true
-    → LiesBetween (last_segment [] None forest) (next_label forest) None → is_well_formed (load t forest) ≡ true
-load_formed t forest w k n r lies =
+pub load_formed : (t : Tree Kind) (forest : Trees Labelled) → is_well_formed forest ≡ true → every is_valid_node (one t) ≡ true → is_element t.0 ≡ true → levels (one t) ≤ 200
+    → every has_room (numbered_behind forest t) ≡ true → LiesBetween (last_segment [] None forest) (next_label forest) None → is_well_formed (load t forest) ≡ true
+load_formed t forest w v k n r lies =
     let x = next_label forest in
     let u = number x t in
-    let a = both_parts (are_labelled [] None forest) (every has_room forest && (are_elements forest && nat_le (levels forest) 200)) w in
-    let b = both_parts (every has_room forest) (are_elements forest && nat_le (levels forest) 200) a.1 in
-    let c = both_parts (are_elements forest) (nat_le (levels forest) 200) b.1 in
+    let a = both_parts (are_labelled [] None forest) (every has_room forest && (every has_valid_kind forest && (are_elements forest && nat_le (levels forest) 200))) w in
+    let b = both_parts (every has_room forest) (every has_valid_kind forest && (are_elements forest && nat_le (levels forest) 200)) a.1 in
+    let f = both_parts (every has_valid_kind forest) (are_elements forest && nat_le (levels forest) 200) b.1 in
+    let c = both_parts (are_elements forest) (nat_le (levels forest) 200) f.1 in
     let d : levels forest ≤ 200 = leb-true (levels forest) 200 c.1 in
     let m : levels (load t forest) ≤ 200 = omega (arith, levels-and_then forest (one u), levels-number x t, d, n) in
     both_true (are_labelled [] None (load t forest)) _ (at_end [] None u x forest a.0 refl lies.one (rises_is (last_segment [] None forest) x lies.above) (number_form x t))
     (both_true (every has_room (load t forest)) _ (every_behind has_room forest (one u) b.0 r)
-    (both_true (are_elements (load t forest)) _ (elements_behind forest (one u) c.0 (both_true (is_element t.0) _ k refl)) (le-leb (levels (load t forest)) 200 m)))
+    (both_true (every has_valid_kind (load t forest)) _ (every_behind has_valid_kind forest (one u) f.0 (valid_numbered x t v))
+    (both_true (are_elements (load t forest)) _ (elements_behind forest (one u) c.0 (both_true (is_element t.0) _ k refl)) (le-leb (levels (load t forest)) 200 m))))
 
 element_is : (tree : Plain) (b : Bool) → b ≡ not (is_element (out-Plain tree).kind) → b ≡ false → is_element (tree_of tree).0 ≡ true
 element_is tree b e f = ap (λ (t : Tree Kind). is_element t.0) (tree_of_out tree) ∙ so_after_all (is_element (out-Plain tree).kind) (sym e ∙ f)
@@ -204,6 +206,7 @@ element_is tree b e f = ap (λ (t : Tree Kind). is_element t.0) (tree_of_out tre
 -- what the steps of a load give together
 pub record Steps (ns ms : List Node) (n : Node) (tree : Plain) (x : List ℤ) (text : Bool) : Type 0 where
   pub formed : is_well_formed (forest_of ns) ≡ true
+  pub valid : is_valid_tree (tree_of tree) ≡ true
   pub text_is : text ≡ not (is_element (out-Plain tree).kind)
   pub no_text : text ≡ false
   pub levels_fit : levels (one (tree_of tree)) ≤ 200
@@ -231,4 +234,4 @@ module _ (ns ms : List Node) (n : Node) (tree : Plain) (x : List ℤ) (text : Bo
   pub steps_form : is_well_formed (forest_of ms) ≡ true
   steps_form =
       ap (λ f. is_well_formed f) steps_load
-      ∙ load_formed (tree_of tree) (forest_of ns) s.formed element s.levels_fit room (subst (λ z. LiesBetween (last_segment [] None (forest_of ns)) z None) s.label s.lies)
+      ∙ load_formed (tree_of tree) (forest_of ns) s.formed (both_parts (every is_valid_node (one (tree_of tree))) _ s.valid).0 element s.levels_fit room (subst (λ z. LiesBetween (last_segment [] None (forest_of ns)) z None) s.label s.lies)

@@ -1,15 +1,16 @@
 -- A numbered tree is labelled, and has the levels that it had.
-use Rattle.std.proofs.Common.{◌≡◌, refl, ap, ◌∙◌, ℕ, ◌+◌, ◌*◌, ◌-◌, ◌<◌, true, false, List, [], ◌∷◌, arith, cond, ltb, eqb, Less, Greater, Equal}
+use Rattle.std.proofs.Common.{◌≡◌, refl, ap, ◌∙◌, ℕ, ◌+◌, ◌*◌, ◌-◌, ◌<◌, true, false, List, [], ◌∷◌, arith, cond, ltb, eqb, Less, Greater, Equal, ◌&&◌}
 use Rattle.std.specs.Prelude.{ℤ, pos, Option, Some, None, max}
 use Rattle.std.proofs.lemmas.Bool.{lt-ltb}
 use Rattle.std.proofs.Math.Nat.{mul-add-mod_self_left}
 use Rattle.std.specs.Ordering.{is_lt, ordering_then}
 use Rattle.mm_label.specs.Label.{is_odd, is_segment}
 use Rattle.mm_tree.specs.declared.plain.Kind.{Kind}
-use Rattle.mm_tree.specs.Trees.{Trees, none, node, Tree, one, levels}
+use Rattle.mm_tree.specs.Trees.{Trees, none, node, Tree, one, every, has_some, levels}
+use Rattle.mm_tree.specs.Validity.{is_valid_node}
 use Rattle.mm_tree.specs.Numbering.{child_label, number, number_from}
-use Rattle.mm_tree.specs.Forests.{is_before, rises, is_child_label, are_labelled}
-use Rattle.mm_tree.proofs.NumberFacts.{both_true}
+use Rattle.mm_tree.specs.Forests.{is_before, rises, is_child_label, are_labelled, has_valid_kind}
+use Rattle.mm_tree.proofs.NumberFacts.{both_true, both_parts}
 use Rattle.mm_tree.proofs.LabelledLaws.{child_ok}
 
 odd_is : (i : ℕ) → is_odd (pos (2 * i + 1)) ≡ true
@@ -44,3 +45,24 @@ levels-number_from y i (node k inner rest) = λ j. max (1 + levels-number_from (
 
 pub levels-number : (x : List ℤ) (t : Tree Kind) → levels (one (number x t)) ≡ levels (one t)
 levels-number x t = ap (λ n. max (1 + n) 0) (levels-number_from x 1 t.1)
+
+has_some-number_from : (y : List ℤ) (i : ℕ) (ts : Trees Kind) → has_some (number_from y i ts) ≡ has_some ts
+has_some-number_from y i none = refl
+has_some-number_from y i (node k inner rest) = refl
+
+valid_from : (y : List ℤ) (i : ℕ) (ts : Trees Kind) → every is_valid_node ts ≡ true → every has_valid_kind (number_from y i ts) ≡ true
+valid_from y i none h = refl
+valid_from y i (node k inner rest) h =
+    let x = child_label y i in
+    let p = both_parts (is_valid_node k (has_some inner)) (every is_valid_node inner && every is_valid_node rest) h in
+    let q = both_parts (every is_valid_node inner) (every is_valid_node rest) p.1 in
+    both_true (is_valid_node k (has_some (number_from x 1 inner))) _ (ap (λ b. is_valid_node k b) (has_some-number_from x 1 inner) ∙ p.0)
+    (both_true (every has_valid_kind (number_from x 1 inner)) _ (valid_from x 1 inner q.0) (valid_from y (i + 1) rest q.1))
+
+-- a numbered tree has the kinds that it had
+pub valid_numbered : (x : List ℤ) (t : Tree Kind) → every is_valid_node (one t) ≡ true → every has_valid_kind (one (number x t)) ≡ true
+valid_numbered x t h =
+    let p = both_parts (is_valid_node t.0 (has_some t.1)) (every is_valid_node t.1 && true) h in
+    let q = both_parts (every is_valid_node t.1) true p.1 in
+    both_true (is_valid_node t.0 (has_some (number_from x 1 t.1))) _ (ap (λ b. is_valid_node t.0 b) (has_some-number_from x 1 t.1) ∙ p.0)
+    (both_true (every has_valid_kind (number_from x 1 t.1)) _ (valid_from x 1 t.1 q.0) refl)

@@ -1,8 +1,8 @@
 -- In a well-formed forest, document order is the order of labels.
-use Rattle.std.proofs.Common.{◌≡◌, refl, ap, sym, ◌∙◌, subst, ℕ, zero, suc, Bool, true, false, ◌&&◌, cond, ◌+◌, ◌<◌, List, [], ◌∷◌, ◌++◌, length, drop, append_assoc, Ordering, Less, Equal, Greater, arith}
-use Rattle.std.specs.Prelude.{ℤ, Option, Some, None, map, All, AllPairs}
+use Rattle.std.proofs.Common.{◌≡◌, refl, ap, sym, ◌∙◌, subst, Bool, true, false, cond, List, [], ◌∷◌, ◌++◌, append_assoc, Ordering, Less, Equal, Greater, arith}
+use Rattle.std.specs.Prelude.{ℤ, Option, Some, None, All, AllPairs}
 use Rattle.std.specs.Ordering.{is_lt, is_eq, int_cmp, ordering_then}
-use Rattle.std.specs.Cmp.{int_cmp_total, IsTotalOrder}
+use Rattle.std.specs.Cmp.{int_cmp_total}
 use Rattle.std.specs.Cmp.Lexicographic.{slice_cmp, lists_total}
 use Rattle.std.proofs.lemmas.Cmp.{tied_itself}
 use Rattle.std.proofs.lemmas.Bool.Decides.{Decides-int_eq}

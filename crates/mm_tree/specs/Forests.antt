@@ -12,7 +12,9 @@ use Rattle.mm_tree.specs.declared.refusal.Refusal.TheVariants.{Top, Deep, Room}
 use Rattle.mm_tree.specs.declared.refusal.TreeError.{TreeError}
 use Rattle.mm_tree.specs.declared.refusal.TreeError.TheVariants as error
 use Rattle.mm_tree.specs.Trees.{Trees, none, node, Tree, one, every, levels}
-use Rattle.mm_tree.specs.Validity.{is_element}
+use Rattle.mm_tree.specs.Validity.{is_element, is_valid_node, is_valid_kind}
+use Rattle.std.specs.Char.{encode_utf8}
+use Rattle.std.specs.Str.{chars, is_utf8}
 use Rattle.mm_tree.specs.Numbering.{Labelled, number, has_room}
 
 -- the segment by which a label goes on from its parent's
@@ -41,9 +43,12 @@ abbrev pub are_elements : Trees Labelled → Bool
 are_elements none = true
 are_elements (node e inner rest) = is_element e.kind && are_elements rest
 
--- labels tell where their nodes stand and fit, the trees' roots are elements, and there are at most 200 levels
+abbrev pub has_valid_kind : Labelled → Bool → Bool
+has_valid_kind e has_children = is_valid_node e.kind has_children
+
+-- labels tell where their nodes stand and fit, kinds are valid and texts have no children, the trees' roots are elements, and there are at most 200 levels
 abbrev pub is_well_formed : Trees Labelled → Bool
-is_well_formed forest = are_labelled [] None forest && (every has_room forest && (are_elements forest && nat_le (levels forest) 200))
+is_well_formed forest = are_labelled [] None forest && (every has_room forest && (every has_valid_kind forest && (are_elements forest && nat_le (levels forest) 200)))
 
 -- siblings, and others behind them
 abbrev pub and_then : {A : Type 0} → Trees A → Trees A → Trees A
@@ -92,7 +97,7 @@ unfolding a_leaf
 third_label = refl
 
 loaded_well : is_well_formed (load a_leaf (load a_leaf none)) ≡ true
-unfolding a_leaf
+unfolding a_leaf is_valid_kind is_utf8 chars encode_utf8
 loaded_well = refl
 
 text_refused : load_refusal (Words (98 ∷ []), none) none ≡ Some Top

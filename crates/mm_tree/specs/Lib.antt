@@ -5,3 +5,4 @@ pub mod Refusals
 pub mod Numbering
 pub mod Forests
 pub mod Order
+pub mod Examples

@@ -2,7 +2,7 @@ ghost use Rattle.std.specs.Prelude.{◌≡◌, ◌^◌, ◌-◌, ◌≤◌, [], 
 ghost use Rattle.std.specs.Option.{SomeIff};
 ghost use Rattle.mm_tree.specs.Trees.{levels, nodes, one, tree_of};
 ghost use Rattle.mm_tree.specs.Numbering.{forest_of, Labels};
-ghost use Rattle.mm_tree.specs.Validity.{is_element};
+ghost use Rattle.mm_tree.specs.Validity.{is_element, is_valid_tree};
 ghost use Rattle.mm_tree.specs.Forests.{is_well_formed, last_segment, next_label, load, load_refusal, IsRefusal};
 ghost use Rattle.mm_label.specs.Label.{IsSegment};
 ghost use Rattle.mm_label.specs.Between.{LiesBetween};
@@ -96,9 +96,10 @@ fn next_label(alloc: Global, trees: &[Node]) -> Result<Label, TreeError>
 /// Puts the tree, with its labels, behind the others. An `Err` changes nothing.
 fn load_behind(trees: &mut Items<Node>, alloc: Global, tree: Plain) -> Result<Done, TreeError>
     requires formed { IsTrue (is_well_formed (forest_of trees.old)) }
+    requires valid { IsTrue (is_valid_tree (tree_of tree)) }
     ensures loaded { OnOk result (forest_of trees.new ≡ load (tree_of tree) (forest_of trees.old)) }
     ensures label { IfOk result (λ done. done.label ≡ next_label (forest_of trees.old)) }
-    ensures nodes { IfOk result (λ done. done.nodes ≡ min (nodes (one (tree_of tree))) (2 ^ 64 - 1)) }
+    ensures nodes { IfOk result (λ done. done.nodes ≡ nodes (one (tree_of tree))) }
     ensures accepted { OnOk result (load_refusal (tree_of tree) (forest_of trees.old) ≡ None) }
     ensures refused { IfErr result (λ e. IsRefusal e (load_refusal (tree_of tree) (forest_of trees.old))) }
     ensures err { OnErr result (trees.new ≡ trees.old) }
@@ -142,9 +143,10 @@ impl Forest {
     /// tree's, and the i-th child gets its parent's label and the segment 2i - 1. An `Err` changes
     /// nothing.
     pub fn load(&mut self, alloc: Global, tree: Plain) -> Result<Done, TreeError>
+        requires { IsTrue (is_valid_tree (tree_of tree)) }
         ensures loaded { OnOk result (forest_of self.new ≡ load (tree_of tree) (forest_of self.old)) }
         ensures label { IfOk result (λ done. done.label ≡ next_label (forest_of self.old)) }
-        ensures nodes { IfOk result (λ done. done.nodes ≡ min (nodes (one (tree_of tree))) (2 ^ 64 - 1)) }
+        ensures nodes { IfOk result (λ done. done.nodes ≡ nodes (one (tree_of tree))) }
         ensures accepted { OnOk result (load_refusal (tree_of tree) (forest_of self.old) ≡ None) }
         ensures refused { IfErr result (λ e. IsRefusal e (load_refusal (tree_of tree) (forest_of self.old))) }
         ensures err { OnErr result (self.new ≡ self.old) }

@@ -23,6 +23,7 @@ pub type Nodes = Items<Node>;
 fn child_label(alloc: Global, parent: &Label, siblings: usize) -> Result<Label, TreeError>
     ensures { Labels result (child_label parent.now (siblings + 1)) }
 {
+    // With more siblings the component would be out of range.
     if siblings > 2147487775 {
         return Err(TreeError::Refused(Refusal::Room));
     }

@@ -1,4 +1,4 @@
-ghost use Rattle.std.specs.Prelude.{◌≡◌};
+ghost use Rattle.std.specs.Prelude.{◌≡◌, Some};
 ghost use Rattle.mm_tree.specs.Refusals.{number_of, word_of};
 
 use mm_label::LabelError;
@@ -85,11 +85,13 @@ impl Refusal {
     }
 }
 
+/// Its word.
 impl fmt::Display for Refusal {
+    ghost output = { λ refusal. Some (word_of refusal) };
+
     fn fmt<W: fmt::Write>(&self, f: &mut fmt::Formatter<W>) -> fmt::Result {
-        let number = self.number();
         let word = self.word();
-        write!(f, "{number} {word}")
+        write!(f, "{word}")
     }
 }
 
@@ -153,7 +155,7 @@ mod tests {
             assert_eq!(rt; refusal.word(), word);
         }
         let shown = format!(in rt.alloc(); "{}", TreeError::Refused(Refusal::Top))?;
-        assert_eq!(rt; shown.as_str(), "refused: 20 top");
+        assert_eq!(rt; shown.as_str(), "refused: top");
         Ok(())
     }
 }

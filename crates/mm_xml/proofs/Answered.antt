@@ -1,5 +1,5 @@
 -- What the reader answers, from the levels that were counted and the tree that was read.
-use Rattle.std.proofs.Common.{◌≡◌, ℕ, ◌^◌, ◌<◌, List, length, Option, Some, None, refl, sym, ap, subst, ◌∙◌, arith}
+use Rattle.std.proofs.Common.{◌≡◌, ℕ, ◌^◌, ◌<◌, List, length, Option, Some, None, refl, sym, subst, ◌∙◌}
 use Rattle.std.specs.Prelude.{IfOk, IsErrOf, IsTrue, Result, Ok, Err}
 use Rattle.mm_tree.specs.declared.Kind.{Kind}
 use Rattle.mm_tree.specs.declared.Plain.{Plain}
@@ -9,8 +9,8 @@ use Rattle.mm_xml.specs.declared.error.XmlError.TheVariants as error
 use Rattle.mm_xml.specs.Grammar.{Spells}
 use Rattle.mm_xml.specs.Reading.{◌>>=◌, read_all}
 use Rattle.mm_xml.specs.Skimming.{skim_all}
-use Rattle.mm_xml.specs.Builds.{Gives, Counts, Refuses}
-use Rattle.mm_xml.specs.Answers.{most_levels, IsShallow, IsTooDeep, AnswersFor}
+use Rattle.mm_xml.specs.Builds.{Gives, Counts}
+use Rattle.mm_xml.specs.Answers.{IsShallow, IsTooDeep, AnswersFor}
 use Rattle.mm_xml.proofs.Options.{bind_some, some_is}
 use Rattle.mm_tree.specs.Validity.{is_valid_tree}
 use Rattle.mm_xml.proofs.Valid.{spelled_valid}

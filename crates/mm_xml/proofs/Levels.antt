@@ -8,10 +8,10 @@ use Rattle.std.proofs.lemmas.Slice.Eq.{bytes_eq-Decides}
 use Rattle.mm_tree.specs.declared.Kind.{Kind}
 use Rattle.mm_tree.specs.declared.Kind.TheVariants.{Element, Words}
 use Rattle.mm_tree.specs.Characters.{is_space}
-use Rattle.mm_tree.specs.Trees.{Trees, none, node, Tree, siblings, one, levels}
+use Rattle.mm_tree.specs.Trees.{none, Tree, siblings, one, levels}
 use Rattle.mm_xml.specs.declared.token.Tag.TheVariants.{Open, Empty, Close}
 use Rattle.mm_xml.specs.Grammar.{name_of}
-use Rattle.mm_xml.specs.Reading.{◌>>=◌, Span, Mark, Run, Frame, State, Before, Inside, After, depth_of, adds_node, fresh, with_child, frame_tree, closed, finished, span_step, span_at, read_from, read_all}
+use Rattle.mm_xml.specs.Reading.{◌>>=◌, Span, Mark, Run, Frame, State, Before, Inside, After, depth_of, adds_node, fresh, with_child, frame_tree, finished, span_step, span_at, read_from, read_all}
 use Rattle.mm_xml.specs.Answers.{most_levels, IsShallow, IsTooDeep}
 use Rattle.mm_xml.proofs.Options.{bind_some, some_is}
 use Rattle.mm_xml.specs.Skimming.{Skimmed, skimmed, reached, is_over, skim_step, skim_end, skim_from, skim_all}

@@ -1,15 +1,15 @@
 -- The productions of XML as sentences on bytes.
-use Rattle.std.proofs.Common.{◌≡◌, ℕ, zero, suc, ◌+◌, ◌-◌, Bool, true, false, cond, List, [], ◌∷◌, ◌++◌, length, Option, Some, None, refl, sym, ap, subst, ◌∙◌, append_assoc, arith}
+use Rattle.std.proofs.Common.{◌≡◌, ℕ, suc, ◌+◌, ◌-◌, Bool, true, false, cond, List, [], ◌∷◌, ◌++◌, length, Some, None, refl, sym, ap, subst, ◌∙◌, append_assoc, arith}
 use Rattle.std.specs.Prelude.{IsTrue, map}
 use Rattle.std.specs.List.{flat_map, list_all}
 use Rattle.std.specs.Str.{bytes_eq, encode_utf8_all}
 use Rattle.mm_tree.specs.declared.Kind.{Kind}
 use Rattle.mm_tree.specs.declared.Kind.TheVariants.{Element, Words}
 use Rattle.mm_tree.specs.Characters.{is_space}
-use Rattle.mm_tree.specs.Trees.{Trees, none, node, Tree, siblings, one}
+use Rattle.mm_tree.specs.Trees.{Trees, none, node, Tree, one}
 use Rattle.mm_xml.specs.declared.token.Tag.{Tag}
 use Rattle.mm_xml.specs.declared.token.Tag.TheVariants.{Open, Empty, Close}
-use Rattle.mm_xml.specs.Grammar.{Token, Tagged, Char, is_token, is_name, is_text_char, spelled, spelled_tag, Bracket, Begin, End, name_of, text_brackets, tag_brackets, brackets, bracketing, IsBareOutside, Spells, SpelledBy, ContentBy, SpellsContent, behind_text, EndsText}
+use Rattle.mm_xml.specs.Grammar.{Token, Tagged, Char, is_name, is_text_char, spelled, spelled_tag, Bracket, Begin, End, name_of, text_brackets, tag_brackets, brackets, bracketing, IsBareOutside, Spells, SpellsContent, behind_text, EndsText}
 use Rattle.mm_xml.specs.Reading.{◌>>=◌, Frame, State, Before, Inside, After, depth_of, fresh, with_child, frame_tree, closed, place_all, finished}
 use Rattle.mm_xml.proofs.Options.{bind_some, some, some_is}
 use Rattle.mm_xml.proofs.Ascii.{text_same}

@@ -1,19 +1,19 @@
 -- Tokens in the order in which they are read: a tag, or all the characters up to the next tag.
-use Rattle.std.proofs.Common.{◌≡◌, ◌≢◌, ℕ, zero, suc, ◌+◌, ◌-◌, ◌≤◌, Bool, true, false, cond, List, [], ◌∷◌, ◌++◌, length, Option, Some, None, refl, sym, ap, subst, ◌∙◌, append_assoc, arith}
-use Rattle.std.specs.Prelude.{IsTrue, map, encode_utf8}
+use Rattle.std.proofs.Common.{◌≡◌, ℕ, suc, ◌+◌, ◌-◌, true, false, cond, List, [], ◌∷◌, ◌++◌, length, Option, Some, None, refl, sym, ap, subst, ◌∙◌, append_assoc, arith}
+use Rattle.std.specs.Prelude.{IsTrue, map}
 use Rattle.std.specs.List.{flat_map, AllByRecursion, list_all}
-use Rattle.std.specs.Str.{bytes_eq, encode_utf8_all}
+use Rattle.std.specs.Str.{bytes_eq}
 use Rattle.mm_tree.specs.declared.Kind.{Kind}
 use Rattle.mm_tree.specs.declared.Kind.TheVariants.{Element, Words}
 use Rattle.mm_tree.specs.Characters.{is_space}
-use Rattle.mm_tree.specs.Trees.{Trees, none, node, Tree, siblings}
+use Rattle.mm_tree.specs.Trees.{none, Tree}
 use Rattle.mm_xml.specs.declared.token.Tag.{Tag}
 use Rattle.mm_xml.specs.declared.token.Tag.TheVariants.{Open, Empty, Close}
-use Rattle.mm_xml.specs.Grammar.{Token, Tagged, Char, is_token, is_text_char, spelled, spelled_tag, Bracket, Begin, End, name_of, text_brackets, tag_brackets, brackets, IsBareOutside}
-use Rattle.mm_xml.specs.Reading.{◌>>=◌, Span, Mark, Run, Frame, State, Before, Inside, After, fresh, with_child, frame_tree, closed, depth_of, place_all, text_step, span_step}
+use Rattle.mm_xml.specs.Grammar.{Token, Tagged, Char, is_token, is_text_char, spelled, Begin, End, name_of, text_brackets, tag_brackets, brackets, IsBareOutside}
+use Rattle.mm_xml.specs.Reading.{◌>>=◌, Frame, State, Before, Inside, After, fresh, with_child, frame_tree, depth_of, place_all, text_step}
 use Rattle.mm_xml.proofs.Options.{both}
-use Rattle.mm_xml.proofs.Ascii.{text_same, name_same, char_same}
-use Rattle.mm_xml.proofs.Tokens.{Stops, is_span, written, IsLongest}
+use Rattle.mm_xml.proofs.Ascii.{text_same, char_same}
+use Rattle.mm_xml.proofs.Tokens.{Stops}
 
 abbrev pub AreTokens : List Token → Type 0
 AreTokens ts = AllByRecursion (λ x. IsTrue (is_token x)) ts

@@ -1,18 +1,18 @@
 -- What is read is spelled so, and what is spelled so is read.
-use Rattle.std.proofs.Common.{◌≡◌, ℕ, zero, suc, ◌+◌, ◌≤◌, Bool, true, false, List, [], ◌∷◌, ◌++◌, length, Option, Some, None, refl, sym, ap, subst, ◌∙◌, arith}
+use Rattle.std.proofs.Common.{◌≡◌, ℕ, zero, suc, ◌≤◌, true, List, [], ◌∷◌, ◌++◌, length, Option, Some, None, refl, sym, ap, subst, ◌∙◌, arith}
 use Rattle.std.specs.Prelude.{map}
 use Rattle.std.specs.List.{flat_map, list_all}
 use Rattle.std.specs.Str.{encode_utf8_all}
 use Rattle.std.proofs.lemmas.List.{length-append}
 use Rattle.mm_tree.specs.declared.Kind.{Kind}
-use Rattle.mm_tree.specs.Trees.{Tree, one}
+use Rattle.mm_tree.specs.Trees.{Tree}
 use Rattle.mm_xml.specs.declared.token.Tag.{Tag}
 use Rattle.mm_xml.specs.declared.token.Tag.TheVariants.{Open, Empty, Close}
-use Rattle.mm_xml.specs.Grammar.{Token, Tagged, Char, is_name, is_text_char, spelled, spelled_tag, Bracket, text_brackets, tag_brackets, brackets, bracketing, IsBareOutside, Spells}
+use Rattle.mm_xml.specs.Grammar.{Token, Tagged, Char, is_name, is_text_char, spelled, spelled_tag, Bracket, text_brackets, tag_brackets, brackets, IsBareOutside, Spells}
 use Rattle.mm_xml.specs.Reading.{◌>>=◌, Span, Mark, Run, Frame, State, Before, Inside, After, depth_of, place_all, finished, text_step, span_step, span_at, read_from, read_all}
 use Rattle.mm_xml.proofs.Options.{bind_some, some_is}
 use Rattle.mm_xml.proofs.Ascii.{name_same}
-use Rattle.mm_xml.proofs.Tokens.{is_span, written, IsLongest, Takes, span_takes, mark_again, run_again}
+use Rattle.mm_xml.proofs.Tokens.{IsLongest, Takes, span_takes, mark_again, run_again}
 use Rattle.mm_xml.proofs.Machine.{build, place_all_append, build_full, build_sound}
 use Rattle.mm_xml.proofs.Runs.{AreTokens, leading, behind, no_char_behind, leading_text, behind_tokens, spelled_leading, stops_behind, brackets_leading, bare_behind, parted, run_brackets, run_tokens, run_spelled, run_bare, no_char_here, IsDeep, depth_after, tag_leads, bare_tag, tag_bare, text_lands}
 

@@ -2,7 +2,7 @@
 --
 -- Tokens are written out in characters and spelled in UTF-8. A token says where nodes begin and end, and so does a tree.
 -- Bytes spell a tree where some tokens spell the bytes and say of its nodes what the tree says.
-use Rattle.std.specs.Prelude.{ℕ, ◌≡◌, ◌≢◌, ◌+◌, ◌-◌, List, [], ◌∷◌, ◌++◌, length, Bool, true, false, ◌&&◌, ◌||◌, not, ◌==◌, nat_le, IsTrue, if◌then◌else◌, encode_utf8}
+use Rattle.std.specs.Prelude.{ℕ, ◌≡◌, ◌≢◌, ◌+◌, ◌-◌, List, [], ◌∷◌, ◌++◌, length, Bool, false, ◌&&◌, ◌||◌, not, ◌==◌, nat_le, IsTrue, if◌then◌else◌, encode_utf8}
 use Rattle.std.specs.List.{flat_map, AllByRecursion, list_all}
 use Rattle.std.specs.Str.{encode_utf8_all}
 use Rattle.mm_tree.specs.declared.Kind.{Kind}

@@ -1,11 +1,11 @@
 -- Reading from left to right, on bytes: a tag at a time, or all the text up to the next tag.
-use Rattle.std.specs.Prelude.{ℕ, zero, suc, ◌≡◌, List, [], ◌∷◌, ◌++◌, length, take, drop, Bool, true, false, not, ◌==◌, ◌&&◌, nat_le, Option, Some, None, if◌then◌else◌}
+use Rattle.std.specs.Prelude.{ℕ, zero, suc, List, [], ◌∷◌, ◌++◌, length, take, drop, Bool, true, false, not, ◌==◌, ◌&&◌, nat_le, Option, Some, None, if◌then◌else◌}
 use Rattle.std.specs.List.{list_all, prefix_len}
 use Rattle.std.specs.Str.{bytes_eq}
 use Rattle.mm_tree.specs.declared.Kind.{Kind}
-use Rattle.mm_tree.specs.declared.Kind.TheVariants.{Element, Words}
+use Rattle.mm_tree.specs.declared.Kind.TheVariants.{Words}
 use Rattle.mm_tree.specs.Characters.{is_space}
-use Rattle.mm_tree.specs.Trees.{Trees, none, node, Tree, siblings}
+use Rattle.mm_tree.specs.Trees.{none, Tree, siblings}
 use Rattle.mm_xml.specs.declared.token.Tag.{Tag}
 use Rattle.mm_xml.specs.declared.token.Tag.TheVariants.{Open, Empty, Close}
 use Rattle.mm_xml.specs.Grammar.{Bracket, Begin, End, is_name_start, is_name_char, is_text_char, name_of, tag_brackets}

@@ -1,9 +1,8 @@
 -- How many levels the bytes' tree has, told without building it.
-use Rattle.std.specs.Prelude.{ℕ, zero, suc, ◌≡◌, ◌+◌, List, [], ◌∷◌, length, Bool, true, false, ◌&&◌, not, ◌==◌, max, Option, Some, None, if◌then◌else◌}
+use Rattle.std.specs.Prelude.{ℕ, zero, suc, ◌+◌, List, [], ◌∷◌, length, Bool, ◌&&◌, not, ◌==◌, max, Option, Some, None, if◌then◌else◌}
 use Rattle.std.specs.List.{list_all}
 use Rattle.std.specs.Str.{bytes_eq}
 use Rattle.mm_tree.specs.Characters.{is_space}
-use Rattle.mm_xml.specs.declared.token.Tag.{Tag}
 use Rattle.mm_xml.specs.declared.token.Tag.TheVariants.{Open, Empty, Close}
 use Rattle.mm_xml.specs.Reading.{◌>>=◌, Span, Mark, Run, span_at}
 

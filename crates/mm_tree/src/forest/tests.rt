@@ -1,3 +1,9 @@
+ghost use Rattle.std.specs.Prelude.{◌≡◌, ◌+◌, ◌<◌, [], ℕ, IfOk, IsTrue};
+ghost use Rattle.mm_tree.specs.declared.plain.Kind.TheVariants.{Element, Words};
+ghost use Rattle.mm_tree.specs.Trees.{none, node, one, tree_of, trees_of};
+ghost use Rattle.mm_tree.specs.Validity.{is_valid_tree};
+ghost use Rattle.mm_tree.specs.Examples.{bibliography, book, titled, Take};
+
 use super::Forest;
 use crate::node::Node;
 use crate::plain::{Kind, Plain};
@@ -7,7 +13,9 @@ use mm_list::Items;
 use std::alloc::{AllocError, Global};
 use std::test::Fail;
 
-fn element(alloc: Global, name: &str, children: Vec<Plain>) -> Result<Plain, AllocError> {
+fn element(alloc: Global, name: &str, children: Vec<Plain>) -> Result<Plain, AllocError>
+    ensures { IfOk result (λ t. tree_of t ≡ (Element name.now [], trees_of children.items)) }
+{
     Ok(Plain {
         kind: Kind::Element {
             name: Text::from_str(alloc, name)?,
@@ -17,7 +25,9 @@ fn element(alloc: Global, name: &str, children: Vec<Plain>) -> Result<Plain, All
     })
 }
 
-fn words(alloc: Global, text: &str) -> Result<Plain, AllocError> {
+fn words(alloc: Global, text: &str) -> Result<Plain, AllocError>
+    ensures { IfOk result (λ t. tree_of t ≡ (Words text.now, none)) }
+{
     Ok(Plain {
         kind: Kind::Words {
             text: Text::from_str(alloc, text)?,
@@ -26,36 +36,53 @@ fn words(alloc: Global, text: &str) -> Result<Plain, AllocError> {
     })
 }
 
-fn titled(alloc: Global, name: &str, text: &str) -> Result<Plain, AllocError> {
-    let inner = vec![in alloc; words(alloc, text)?]?;
+fn titled(alloc: Global, name: &str, text: &str) -> Result<Plain, AllocError>
+    ensures { IfOk result (λ t. one (tree_of t) ≡ titled name.now text.now none) }
+{
+    let mut inner = Vec::new(alloc);
+    inner.push(words(alloc, text)?)?;
     element(alloc, name, inner)
 }
 
-fn book(alloc: Global, title: &str, author: &str) -> Result<Plain, AllocError> {
-    let title = titled(alloc, "title", title)?;
-    let author = titled(alloc, "author", author)?;
-    element(alloc, "book", vec![in alloc; title, author]?)
+fn book(alloc: Global, title: &str, author: &str) -> Result<Plain, AllocError>
+    ensures { IfOk result (λ t. one (tree_of t) ≡ book title.now author.now none) }
+{
+    let mut inner = Vec::new(alloc);
+    inner.push(titled(alloc, "title", title)?)?;
+    inner.push(titled(alloc, "author", author)?)?;
+    element(alloc, "book", inner)
 }
 
-fn bibliography(alloc: Global) -> Result<Plain, AllocError> {
-    let first = book(alloc, "XML search", "Liu")?;
-    let second = book(alloc, "Keyword search", "Chen")?;
-    element(alloc, "bib", vec![in alloc; first, second]?)
+#[tactic(auto, unfolding(crate::specs::Examples::bibliography))]
+fn bibliography(alloc: Global) -> Result<Plain, AllocError>
+    ensures { IfOk result (λ t. tree_of t ≡ bibliography) }
+{
+    let mut inner = Vec::new(alloc);
+    inner.push(book(alloc, "XML search", "Liu")?)?;
+    inner.push(book(alloc, "Keyword search", "Chen")?)?;
+    element(alloc, "bib", inner)
 }
 
 /// So many elements, each in the one before.
-fn chain(alloc: Global, levels: u8) -> Result<Plain, AllocError> {
+fn chain(alloc: Global, levels: u8) -> Result<Plain, AllocError>
+    requires { 0 < levels }
+    ensures { IfOk result (λ t. Take (one (tree_of t)) levels) }
+{
     let mut tree = element(alloc, "a", Vec::new(alloc))?;
-    for _ in 1..levels {
-        tree = element(alloc, "a", vec![in alloc; tree]?)?;
+    for _level in 1..levels {
+        let mut inner = Vec::new(alloc);
+        inner.push(tree)?;
+        tree = element(alloc, "a", inner)?;
     }
     Ok(tree)
 }
 
 /// An element with so many empty elements, and the tree as the last child.
-fn fan(alloc: Global, empty: u32, last: Plain) -> Result<Plain, AllocError> {
+fn fan(alloc: Global, empty: u32, last: Plain) -> Result<Plain, AllocError>
+    ensures { IfOk result (λ t. (n : ℕ) → Take (one (tree_of last)) n → Take (one (tree_of t)) (empty + n + 1)) }
+{
     let mut children = Vec::new(alloc);
-    for _ in 0..empty {
+    for _child in 0..empty {
         children.push(element(alloc, "a", Vec::new(alloc))?)?;
     }
     children.push(last)?;
@@ -102,12 +129,15 @@ fn the_first_cause_is_refused(rt: HostRuntime) -> Result<(), Fail> {
 
 /// A tree whose longest label takes 511 bytes more than one of so many levels: from the 33rd child
 /// on a label takes two bytes more than its parent's, from the 4,129th on five.
-fn long(alloc: Global, levels: u8) -> Result<Plain, AllocError> {
+fn long(alloc: Global, levels: u8) -> Result<Plain, AllocError>
+    requires { 0 < levels }
+    ensures { IfOk result (λ t. IsTrue (is_valid_tree (tree_of t))) }
+{
     let mut tree = chain(alloc, levels)?;
-    for _ in 0..158u8 {
+    for _two in 0..158u8 {
         tree = fan(alloc, 32, tree)?;
     }
-    for _ in 0..39u8 {
+    for _five in 0..39u8 {
         tree = fan(alloc, 4128, tree)?;
     }
     Ok(tree)
@@ -125,12 +155,20 @@ fn a_label_of_513_bytes_has_no_room(rt: HostRuntime) -> Result<(), Fail> {
     Ok(())
 }
 
+/// An element with so many children.
+fn wide(alloc: Global, children: u32) -> Result<Plain, AllocError>
+    requires { children < 1000000 }
+    ensures { IfOk result (λ t. IsTrue (is_valid_tree (tree_of t))) }
+{
+    let last = chain(alloc, 1)?;
+    fan(alloc, children, last)
+}
+
 #[test]
 fn a_wide_tree_is_loaded(rt: HostRuntime) -> Result<(), Fail> {
     let alloc = rt.alloc();
     let mut forest = Forest::new(alloc);
-    let last = element(alloc, "b", Vec::new(alloc))?;
-    let done = forest.load(alloc, fan(alloc, 199_999, last)?)?;
+    let done = forest.load(alloc, wide(alloc, 199_999)?)?;
     assert_eq!(rt; done.nodes, 200_001);
     let root = forest.trees().first().ok_or("no tree")?;
     let last = below(root, 199_999)?;

@@ -1,5 +1,5 @@
 use Rattle.std.proofs.lemmas.Result.{err_from_is_err_and}
-use Rattle.mm_xml.proofs.Answered.{Reads, reads_uncounted, reads_deep, reads_tree, reads_none, reads_nothing}
+use Rattle.mm_xml.proofs.Answered.{reads_uncounted, reads_deep, reads_tree, reads_none, reads_nothing}
 use Rattle.mm_xml.proofs.reader.read.Goals as goal
 
 pub returns-in_err-level_count-in-Err-TooDeep : goal.returns-in_err-level_count-in-Err-TooDeep

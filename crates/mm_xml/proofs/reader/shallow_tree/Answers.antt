@@ -1,6 +1,5 @@
-use Rattle.std.proofs.Common.{◌≡◌, ℕ, zero, suc, ◌+◌, ◌-◌, ◌≤◌, Bool, true, eqb, List, [], ◌∷◌, length, Option, Some, None, refl, ap, sym, subst, ◌∙◌, arith}
-use Rattle.mm_tree.specs.declared.Kind.{Kind}
-use Rattle.mm_tree.specs.Trees.{Tree, tree_of}
+use Rattle.std.proofs.Common.{◌≡◌, ℕ, zero, suc, ◌-◌, ◌≤◌, Bool, true, eqb, List, [], ◌∷◌, length, Option, Some, None, refl, ap, sym, subst, ◌∙◌, arith}
+use Rattle.mm_tree.specs.Trees.{tree_of}
 use Rattle.mm_xml.specs.Reading.{◌>>=◌, Span, State, Before, finished, adds_node, span_at, span_step, read_from, read_all}
 use Rattle.std.specs.Prelude.{Err}
 use Rattle.std.specs.Option.{ok_or}
