@@ -9,3 +9,4 @@ pub mod Heads
 pub mod Unspelled
 pub mod Turns
 pub mod Telling
+pub mod OneReply

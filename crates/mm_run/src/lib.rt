@@ -5,6 +5,7 @@ mod answering;
 mod buffer;
 mod command;
 mod forms;
+pub mod laws;
 mod line;
 mod payload;
 mod reading;

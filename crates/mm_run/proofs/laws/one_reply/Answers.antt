@@ -1,0 +1,5 @@
+use Rattle.mm_run.proofs.OneReply.{replies-once}
+use Rattle.mm_run.proofs.laws.one_reply.Goals as goal
+
+pub returns : goal.returns
+returns c = λ forest commands r s f g first second. replies-once c.one_tree.ensures forest commands r s f g first second
