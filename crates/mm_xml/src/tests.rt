@@ -20,25 +20,36 @@ fn outcome(alloc: Global, text: &str) -> Answer {
     }
 }
 
+/// Puts a piece behind a text, so many times.
+fn push_times(text: &mut String, piece: &str, times: usize) -> Result<(), AllocError> {
+    for _ in 0..times {
+        text.push_str(piece)?;
+    }
+    Ok(())
+}
+
 /// Elements inside one another, and what stands in the innermost.
 fn nested(alloc: Global, levels: usize, inner: &str) -> Result<String, AllocError> {
     let mut text = String::new(alloc);
-    for _ in 0..levels {
-        text.push_str("<a>")?;
-    }
+    push_times(&mut text, "<a>", levels)?;
     text.push_str(inner)?;
-    for _ in 0..levels {
-        text.push_str("</a>")?;
-    }
+    push_times(&mut text, "</a>", levels)?;
     Ok(text)
 }
 
+/// An element with a name of so many letters.
 fn named(alloc: Global, letters: usize) -> Result<String, AllocError> {
     let mut text = String::from_str(alloc, "<")?;
-    for _ in 0..letters {
-        text.push_str("n")?;
-    }
+    push_times(&mut text, "n", letters)?;
     text.push_str("/>")?;
+    Ok(text)
+}
+
+/// An element with a text of so many letters.
+fn filled(alloc: Global, letters: usize) -> Result<String, AllocError> {
+    let mut text = String::from_str(alloc, "<a>")?;
+    push_times(&mut text, "x", letters)?;
+    text.push_str("</a>")?;
     Ok(text)
 }
 
@@ -142,6 +153,19 @@ fn counts_letters_of_names(rt: HostRuntime) -> Result<(), Fail> {
         let text = named(rt.alloc(), letters)?;
         assert_eq!(rt; outcome(rt.alloc(), text.as_str()), want, "at {letters}");
     }
+    Ok(())
+}
+
+/// Sixteen megabytes of text, and of start tags alone; two million elements inside one another.
+#[test]
+fn answers_megabytes(rt: HostRuntime) -> Result<(), Fail> {
+    let text = filled(rt.alloc(), 16_777_209)?;
+    assert_eq!(rt; outcome(rt.alloc(), text.as_str()), Answer::Tree);
+    let mut tags = String::new(rt.alloc());
+    push_times(&mut tags, "<a>", 5_592_405)?;
+    assert_eq!(rt; outcome(rt.alloc(), tags.as_str()), Answer::NotXml);
+    let deep = nested(rt.alloc(), 2_000_000, "")?;
+    assert_eq!(rt; outcome(rt.alloc(), deep.as_str()), Answer::TooDeep);
     Ok(())
 }
 
