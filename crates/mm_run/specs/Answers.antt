@@ -1,5 +1,5 @@
 -- What commands are answered, and the forests after them.
-use Rattle.std.specs.Prelude.{◌≡◌, ℕ, ℤ, ◌-◌, ◌^◌, min, if◌then◌else◌, nat_le, List, [], ◌∷◌, ◌++◌, Option, Some, None, ◌⊎◌, codes}
+use Rattle.std.specs.Prelude.{◌≡◌, ℕ, ℤ, if◌then◌else◌, nat_le, List, [], ◌∷◌, ◌++◌, Option, Some, None, ◌⊎◌, codes}
 use Rattle.std.specs.Fmt.{decimal}
 use Rattle.mm_label.specs.Text.{text_of}
 use Rattle.mm_tree.specs.declared.plain.Kind.{Kind}

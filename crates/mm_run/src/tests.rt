@@ -170,12 +170,13 @@ fn lines_and_payloads_end_at_their_limits(rt: HostRuntime) -> Result<(), Fail> {
 
 #[test]
 fn each_fault_ends_the_run(rt: HostRuntime) -> Result<(), Fail> {
-    let input = b"load\n<a/>\n.\n";
+    let input = b"load\n<a/>\n.\nload\n<a/>\n.\n";
     for (more_words, failing_read, failing_write, number, written) in [
         (1, 0, 0, 1, b"fault 1 usage\n".as_slice()),
         (0, 1, 0, 2, b"fault 2 source\n"),
-        (0, 2, 0, 2, b"ok 1 1\nfault 2 source\n"),
+        (0, 2, 0, 2, b"ok 1 1\nok 3 1\nfault 2 source\n"),
         (0, 0, 1, 3, b""),
+        (0, 0, 2, 3, b"ok 1 1\n"),
     ] {
         let bytes = Vec::from_slice(rt.alloc(), input)?;
         let got = run_over(
@@ -186,6 +187,26 @@ fn each_fault_ends_the_run(rt: HostRuntime) -> Result<(), Fail> {
             &[failing_write],
         )?;
         assert_eq!(rt; got.number, number);
+        assert_eq!(rt; got.written.as_slice(), written);
+    }
+    Ok(())
+}
+
+/// A document of two pieces: the second read fails inside it, the third at the end of the input.
+#[test]
+fn a_source_fails_in_the_middle(rt: HostRuntime) -> Result<(), Fail> {
+    for (failing_read, written) in [
+        (2, b"fault 2 source\n".as_slice()),
+        (3, b"ok 1 2\nfault 2 source\n"),
+    ] {
+        let parts = [
+            (b"load\n<a>".as_slice(), 1),
+            (b"x", 100_000),
+            (b"</a>\n.\n", 1),
+        ];
+        let bytes = joined(rt.alloc(), &parts)?;
+        let got = run_over(rt.alloc(), bytes, 0, &[failing_read], &[])?;
+        assert_eq!(rt; got.number, 2);
         assert_eq!(rt; got.written.as_slice(), written);
     }
     Ok(())
