@@ -6,7 +6,7 @@ mod adapters;
 ghost use Rattle.std.specs.Prelude.{◌≡◌, ◌<◌};
 
 use crate::adapters::{ReadSource, WriteSink};
-use mm_host::{Disk, NoDisk, Sink, Source};
+use mm_host::{Disk, NoDisk, Sink, Source, write_all};
 use mm_run::{Status, run};
 use mm_steps::Steps;
 use std::alloc::Global;
@@ -38,14 +38,18 @@ fn words(rt: &HostRuntime) -> io::Result<Vec<String>> {
 }
 
 fn main(rt: HostRuntime) -> ExitCode {
-    // Words that can't be read aren't taken.
-    let words = match words(&rt) {
-        Ok(words) => words,
-        Err(_) => Vec::new(rt.alloc()),
-    };
     let mut source = ReadSource::new(rt.stdin());
     let mut sink = WriteSink::new(rt.stdout());
     let mut disk = NoDisk::new();
+    let words = match words(&rt) {
+        Ok(words) => words,
+        Err(error) if error.kind() == io::ErrorKind::OutOfMemory => {
+            let _ = write_all(&mut sink, b"fault 6 memory\n");
+            return ExitCode::from(Status::Memory.number());
+        }
+        // Words that can't be read aren't taken.
+        Err(_) => Vec::new(rt.alloc()),
+    };
     let status = run_uncounted::<_, _, _, Brand>(
         rt.alloc(),
         &words,
