@@ -5,4 +5,5 @@ pub mod Refusals
 pub mod Numbering
 pub mod Forests
 pub mod Order
+pub mod Search
 pub mod Examples
