@@ -5,4 +5,6 @@ pub mod Refusals
 pub mod Numbering
 pub mod Forests
 pub mod Order
+pub mod Edits
+pub mod Ways
 pub mod Examples
