@@ -4,4 +4,6 @@ pub mod LabelledLaws
 pub mod NumberForm
 pub mod LoadFacts
 pub mod OrderLaws
+pub mod WayLaws
+pub mod PlaceFacts
 pub mod TestFacts

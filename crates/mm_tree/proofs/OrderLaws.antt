@@ -75,7 +75,7 @@ lt_is Greater e = absurd cc
 pub before_is : (a b : List ℤ) → is_before a b ≡ true → IsBefore a b
 before_is a b e = lt_is _ e
 
-rises_more : (left : Option (List ℤ)) (s t : List ℤ) → rises left s ≡ true → is_before s t ≡ true → rises left t ≡ true
+pub rises_more : (left : Option (List ℤ)) (s t : List ℤ) → rises left s ≡ true → is_before s t ≡ true → rises left t ≡ true
 rises_more None s t a b = refl
 rises_more (Some l) s t a b = ap is_lt ((lists_total int_cmp_total).trans l s t (before_is l s a) (before_is s t b))
 

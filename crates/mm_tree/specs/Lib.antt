@@ -5,5 +5,7 @@ pub mod Refusals
 pub mod Numbering
 pub mod Forests
 pub mod Order
+pub mod Edits
+pub mod Ways
 pub mod Search
 pub mod Examples

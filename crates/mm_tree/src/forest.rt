@@ -1,19 +1,25 @@
-ghost use Rattle.std.specs.Prelude.{◌≡◌, ◌^◌, ◌-◌, ◌≤◌, [], IsTrue, IfOk, IfErr, OnOk, OnErr, None, not, min};
+ghost use Rattle.std.specs.Prelude.{◌≡◌, ◌^◌, ◌-◌, ◌≤◌, [], IsTrue, MatchOption, Some, IfOk, IfErr, OnOk, OnErr, None, not, min};
 ghost use Rattle.std.specs.Option.{SomeIff};
 ghost use Rattle.mm_tree.specs.Trees.{levels, nodes, one, tree_of};
-ghost use Rattle.mm_tree.specs.Numbering.{forest_of, Labels};
+ghost use Rattle.mm_tree.specs.Numbering.{forest_of, node_of, Labels};
+ghost use Rattle.mm_tree.specs.Edits.{found, has};
 ghost use Rattle.mm_tree.specs.Validity.{is_element, is_valid_tree};
 ghost use Rattle.mm_tree.specs.Forests.{is_well_formed, last_segment, next_label, load, load_refusal, IsRefusal};
 ghost use Rattle.mm_label.specs.Label.{IsSegment};
 ghost use Rattle.mm_label.specs.Between.{LiesBetween};
 ghost use Rattle.mm_label.specs.Answers.{RefusesSegment};
 
+mod find;
+mod place;
+
+use self::find::find_in;
 use crate::measure::nodes_within;
 use crate::node::{Node, number};
 use crate::plain::{Kind, Plain};
 use crate::refusal::{Refusal, TreeError};
 use mm_label::{Label, LabelError, between, child};
 use mm_list::Items;
+pub use place::Place;
 use std::alloc::Global;
 use std::marker::Model;
 
@@ -137,6 +143,14 @@ impl Forest {
         ensures formed { IsTrue (is_well_formed (forest_of self.now)) }
     {
         self.trees.as_slice()
+    }
+
+    /// The node with the label, or None where no node has it.
+    pub fn find(&self, label: &Label) -> Option<&Node>
+        ensures node { MatchOption result (found label.now (forest_of self.now) ≡ None) (λ n. found label.now (forest_of self.now) ≡ Some (node_of n.now)) }
+        ensures present { MatchOption result (IsTrue (not (has label.now (forest_of self.now)))) (λ n. IsTrue (has label.now (forest_of self.now))) }
+    {
+        find_in(self.trees.as_slice(), label)
     }
 
     /// Puts the tree, with new labels, behind the others: the root's label goes on from the last

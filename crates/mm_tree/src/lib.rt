@@ -12,7 +12,7 @@ mod plain;
 mod refusal;
 mod text;
 
-pub use forest::{Done, Forest};
+pub use forest::{Done, Forest, Place};
 pub use node::{Node, Nodes};
 pub use plain::{Attribute, Attributes, Kind, Plain, Plains};
 pub use refusal::{Refusal, TreeError};
