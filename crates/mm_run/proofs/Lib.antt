@@ -1,5 +1,4 @@
 pub mod Kept
-pub mod Spaces
 pub mod Going
 pub mod Parts
 pub mod Cutting

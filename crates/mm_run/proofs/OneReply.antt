@@ -6,11 +6,12 @@ use Rattle.mm_tree.specs.Trees.{Trees, Tree}
 use Rattle.mm_tree.specs.Numbering.{Labelled}
 use Rattle.mm_xml.specs.Grammar.{Spells}
 use Rattle.mm_run.specs.declared.command.Command.{Command}
-use Rattle.mm_run.specs.declared.command.Form.{Form}
-use Rattle.mm_run.specs.declared.command.Form.TheVariants as form
+use Rattle.mm_command.specs.declared.line.Line.{Line}
+use Rattle.mm_command.specs.declared.line.Line.TheVariants as line
+use Rattle.mm_run.specs.Forms.{Form}
 use Rattle.mm_run.specs.declared.command.Payload.{Payload}
 use Rattle.mm_run.specs.declared.command.Payload.TheVariants as payload
-use Rattle.mm_run.specs.Answers.{Refuses, Skips, AnswersBy, AnswersTree, AnswersBytes, AnswersLoad, AnswersForm, Answers, Replies, tree_refusal}
+use Rattle.mm_run.specs.Answers.{Refuses, Skips, AnswersBy, AnswersTree, AnswersBytes, AnswersLoad, AnswersLine, AnswersForm, Answers, Replies, tree_refusal}
 
 -- both of two answers are one
 abbrev Same : (r s : List ℕ) (f g : Trees Labelled) → Type 0
@@ -42,11 +43,19 @@ module _ (one_tree : (bytes : List ℕ) (t u : Tree Kind) → Spells bytes t →
   load-once forest payload.Cut r s f g a b = refuses-once a b
   load-once forest payload.Nothing r s f g a b = refuses-once a b
 
+  line-once : (l : Line) (p : Payload) (forest : Trees Labelled) (r s : List ℕ) (f g : Trees Labelled) → AnswersLine l p forest r f → AnswersLine l p forest s g → Same r s f g
+  line-once line.Blank p forest r s f g a b = skips-once a b
+  line-once line.Load p forest r s f g a b = load-once forest p r s f g a b
+  line-once (line.Insert place label) p forest r s f g a b = refuses-once a b
+  line-once (line.Delete label) p forest r s f g a b = refuses-once a b
+  line-once (line.Replace label) p forest r s f g a b = refuses-once a b
+  line-once (line.Search find text) p forest r s f g a b = refuses-once a b
+  line-once (line.Show label) p forest r s f g a b = refuses-once a b
+  line-once line.Quit p forest r s f g a b = skips-once a b
+
   form-once : (w : Form) (p : Payload) (forest : Trees Labelled) (r s : List ℕ) (f g : Trees Labelled) → AnswersForm w p forest r f → AnswersForm w p forest s g → Same r s f g
-  form-once form.Load p forest r s f g a b = load-once forest p r s f g a b
-  form-once form.Blank p forest r s f g a b = skips-once a b
-  form-once form.Quit p forest r s f g a b = skips-once a b
-  form-once form.Unknown p forest r s f g a b = refuses-once a b
+  form-once None p forest r s f g a b = refuses-once a b
+  form-once (Some l) p forest r s f g a b = line-once l p forest r s f g a b
 
   answer-once : (forest : Trees Labelled) (command : Command) (r s : List ℕ) (f g : Trees Labelled) → Answers forest command r f → Answers forest command s g → Same r s f g
   unfolding Answers

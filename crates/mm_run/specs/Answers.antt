@@ -11,8 +11,9 @@ use Rattle.mm_tree.specs.Numbering.{Labelled}
 use Rattle.mm_tree.specs.Forests.{next_label, load, load_refusal}
 use Rattle.mm_xml.specs.Grammar.{Spells}
 use Rattle.mm_run.specs.declared.command.Command.{Command}
-use Rattle.mm_run.specs.declared.command.Form.{Form}
-use Rattle.mm_run.specs.declared.command.Form.TheVariants as form
+use Rattle.mm_command.specs.declared.line.Line.{Line}
+use Rattle.mm_command.specs.declared.line.Line.TheVariants as line
+use Rattle.mm_run.specs.Forms.{Form}
 use Rattle.mm_run.specs.declared.command.Payload.{Payload}
 use Rattle.mm_run.specs.declared.command.Payload.TheVariants as payload
 
@@ -63,11 +64,20 @@ pub record Skips (forest : Trees Labelled) (reply : List ℕ) (after : Trees Lab
   pub line : reply ≡ []
   pub same : after ≡ forest
 
+-- What a line with its payload is answered.
+abbrev pub AnswersLine : Line → Payload → Trees Labelled → List ℕ → Trees Labelled → Type 0
+AnswersLine line.Blank payload forest reply after = Skips forest reply after
+AnswersLine line.Load payload forest reply after = AnswersLoad forest payload reply after
+AnswersLine (line.Insert place label) payload forest reply after = Refuses forest refusal.Command reply after
+AnswersLine (line.Delete label) payload forest reply after = Refuses forest refusal.Command reply after
+AnswersLine (line.Replace label) payload forest reply after = Refuses forest refusal.Command reply after
+AnswersLine (line.Search find text) payload forest reply after = Refuses forest refusal.Command reply after
+AnswersLine (line.Show label) payload forest reply after = Refuses forest refusal.Command reply after
+AnswersLine line.Quit payload forest reply after = Skips forest reply after
+
 abbrev pub AnswersForm : Form → Payload → Trees Labelled → List ℕ → Trees Labelled → Type 0
-AnswersForm form.Load payload forest reply after = AnswersLoad forest payload reply after
-AnswersForm form.Blank payload forest reply after = Skips forest reply after
-AnswersForm form.Quit payload forest reply after = Skips forest reply after
-AnswersForm form.Unknown payload forest reply after = Refuses forest refusal.Command reply after
+AnswersForm None payload forest reply after = Refuses forest refusal.Command reply after
+AnswersForm (Some line) payload forest reply after = AnswersLine line payload forest reply after
 
 -- What a command is answered in a forest, and the forest after it.
 unfoldable pub Answers : Trees Labelled → Command → List ℕ → Trees Labelled → Type 0

@@ -2,11 +2,12 @@
 ghost use Rattle.std.specs.Prelude.{◌≡◌, IfOk, IsTrue, string_bytes, None};
 ghost use Rattle.mm_tree.specs.Trees.{tree_of};
 ghost use Rattle.mm_tree.specs.Numbering.{forest_of};
-ghost use Rattle.mm_run.specs.Answers.{refusal_line, loaded_line, AnswersBy, AnswersBytes, AnswersLoad, Answers};
+ghost use Rattle.mm_run.specs.Answers.{refusal_line, loaded_line, AnswersBy, AnswersBytes, AnswersLoad, AnswersLine, Answers};
 ghost use Rattle.mm_tree.specs.Forests.{load_refusal};
 ghost use Rattle.mm_tree.specs.Validity.{is_valid_tree};
 
-use crate::command::{Body, Command, Form, Payload};
+use crate::command::{Body, Command, Payload};
+use mm_command::Line;
 use mm_tree::{Done, Forest, Plain, Refusal, TreeError};
 use mm_xml::{XmlError, read};
 use std::alloc::{AllocError, Global};
@@ -64,6 +65,26 @@ fn load_payload(alloc: Global, forest: &mut Forest, payload: Payload) -> Result<
     }
 }
 
+/// Carries out what a line asks for.
+fn answer_line(
+    alloc: Global,
+    forest: &mut Forest,
+    line: &Line,
+    payload: Payload,
+) -> Result<String, AllocError>
+    ensures { IfOk result (λ text. AnswersLine line.now payload (forest_of forest.old) (string_bytes text) (forest_of forest.new)) }
+{
+    match line {
+        Line::Load => load_payload(alloc, forest, payload),
+        Line::Blank | Line::Quit => Ok(String::new(alloc)),
+        Line::Insert { .. }
+        | Line::Delete { .. }
+        | Line::Replace { .. }
+        | Line::Search { .. }
+        | Line::Show { .. } => refusal_line(alloc, Refusal::Command),
+    }
+}
+
 /// Carries a command out. The text is its reply.
 #[tactic(auto, unfolding(crate::specs::Answers::Answers))]
 pub fn answer(alloc: Global, forest: &mut Forest, command: Command) -> Result<String, AllocError>
@@ -71,8 +92,7 @@ pub fn answer(alloc: Global, forest: &mut Forest, command: Command) -> Result<St
 {
     let Command { form, payload } = command;
     match form {
-        Form::Load => load_payload(alloc, forest, payload),
-        Form::Blank | Form::Quit => Ok(String::new(alloc)),
-        Form::Unknown => refusal_line(alloc, Refusal::Command),
+        None => refusal_line(alloc, Refusal::Command),
+        Some(line) => answer_line(alloc, forest, &line, payload),
     }
 }

@@ -13,7 +13,7 @@ mod serving;
 mod status;
 mod top;
 
-pub use command::{Command, Form, Payload};
+pub use command::{Command, Payload};
 pub use status::Status;
 pub use top::run;
 
