@@ -1,5 +1,5 @@
 -- A list that was sorted and whose repeats were taken out.
-use Rattle.std.proofs.Common.{◌≡◌, ℕ, List, [], ◌++◌, ap, subst, sym, ◌∙◌, IsPermutation, IsSorted, nat_eq, nat_cmp}
+use Rattle.std.proofs.Common.{ℕ, List, [], subst, sym, IsPermutation, IsSorted, nat_eq, nat_cmp}
 use Rattle.std.specs.Cmp.Lexicographic.{slice_cmp, pointwise, texts_ties}
 use Rattle.std.specs.List.Retain.{IsFiltered, DiffersFromLast}
 use Rattle.std.proofs.lemmas.Cmp.{nat_list_cmp_total, nat_list_eq_equiv}
@@ -19,8 +19,3 @@ set_of ws sorted out p s d =
         λ h. Contains-dedup nat_list_eq_equiv (λ x y t. (bytes_eq-Decides x y).0 t) sorted w (Contains-permutation ws sorted w p h),
       );
     })
-
--- the same, of words that were pushed to an empty list
-pub set_of_pushed : (ws start pushed sorted out : List (List ℕ)) → pushed ≡ start ++ ws → start ≡ [] → IsPermutation pushed sorted → IsSorted (slice_cmp nat_cmp) sorted → IsFiltered (DiffersFromLast (pointwise nat_eq)) [] sorted out → IsSetOf ws out
-set_of_pushed ws start pushed sorted out e f p s d =
-    set_of ws sorted out (subst (λ zs. IsPermutation zs sorted) (e ∙ ap (λ zs. zs ++ ws) f) p) s d

@@ -11,8 +11,9 @@ use mm_list::Items;
 use std::alloc::{AllocError, Global};
 use unicode_segmentation::UnicodeSegmentation;
 
-/// Puts the words of the text behind those of the list.
-fn push_words(alloc: Global, text: &str, list: &mut Vec<Word>) -> Result<(), AllocError>
+/// Puts the words of the text behind those of the list, in the order of the text, with repeats. After an
+/// `Err` the list may end with some of them.
+pub fn push_text_words(alloc: Global, text: &str, list: &mut Vec<Word>) -> Result<(), AllocError>
     ensures { OnOk result (list.new.items ≡ list.old.items ++ text_words text.now) }
 {
     for piece in text.unicode_words() {
@@ -24,16 +25,24 @@ fn push_words(alloc: Global, text: &str, list: &mut Vec<Word>) -> Result<(), All
     Ok(())
 }
 
+/// The words, sorted by their bytes, each once.
+pub fn sorted_words(words: Vec<Word>) -> Result<Items<Word>, AllocError>
+    ensures { IfOk result (IsSetOf words.items) }
+{
+    let mut list = words;
+    list.sort()?;
+    list.dedup();
+    Ok(Items::from_vec(list))
+}
+
 /// The words of a text, sorted and distinct. Those of more than 256 folded bytes, and those with a byte
 /// 00, are left out.
 pub fn words_of_text(alloc: Global, text: &str) -> Result<Items<Word>, AllocError>
     ensures { IfOk result (IsSetOf (text_words text.now)) }
 {
     let mut list = Vec::new(alloc);
-    push_words(alloc, text, &mut list)?;
-    list.sort()?;
-    list.dedup();
-    Ok(Items::from_vec(list))
+    push_text_words(alloc, text, &mut list)?;
+    sorted_words(list)
 }
 
 fn is_cut(b: u8) -> bool
@@ -61,25 +70,25 @@ fn cut_once(name: &str) -> Option<(&str, &str)>
     Some((&name[..i], &name[i + 1..]))
 }
 
-/// Puts the words of the pieces of the name behind those of the list.
-fn push_name(alloc: Global, name: &str, list: &mut Vec<Word>) -> Result<(), AllocError>
+/// Puts the words of the name behind those of the list, in the order of the name, with repeats: the
+/// words of its pieces, cut at each `:`, `-`, `.` and `_`. After an `Err` the list may end with some of
+/// them.
+pub fn push_name_words(alloc: Global, name: &str, list: &mut Vec<Word>) -> Result<(), AllocError>
     ensures { OnOk result (list.new.items ≡ list.old.items ++ name_words name.now) }
 {
     let mut rest = name;
     while let Some((piece, after)) = cut_once(rest) {
-        push_words(alloc, piece, list)?;
+        push_text_words(alloc, piece, list)?;
         rest = after;
     }
-    push_words(alloc, rest, list)
+    push_text_words(alloc, rest, list)
 }
 
-/// The words of a name, sorted and distinct: the words of its pieces, cut at each `:`, `-`, `.` and `_`.
+/// The words of a name, sorted and distinct.
 pub fn words_of_name(alloc: Global, name: &str) -> Result<Items<Word>, AllocError>
     ensures { IfOk result (IsSetOf (name_words name.now)) }
 {
     let mut list = Vec::new(alloc);
-    push_name(alloc, name, &mut list)?;
-    list.sort()?;
-    list.dedup();
-    Ok(Items::from_vec(list))
+    push_name_words(alloc, name, &mut list)?;
+    sorted_words(list)
 }
