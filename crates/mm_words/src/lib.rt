@@ -1,5 +1,21 @@
-//! Words: what a text, a name and a query are searched by.
+//! The words of texts and of names, and queries by words.
 //!
-//! The words of a text are its words by Unicode Standard Annex 29, each folded by the default case
-//! folding of the Unicode standard's caseless matching. The definitions stand in `specs/`.
+//! A text is cut into words by Unicode's rules (UAX #29), and each word is folded by the default case
+//! folding (The Unicode Standard, section 3.13). Two words are the same where their folded bytes are.
+//! Normal forms aren't applied.
 #![tactic(auto)]
+
+pub mod calls;
+mod error;
+mod fold;
+mod queries;
+mod texts;
+mod word;
+
+pub use error::QueryError;
+pub use queries::Query;
+pub use texts::{push_name_words, push_text_words, sorted_words, words_of_name, words_of_text};
+pub use word::Word;
+
+#[cfg(test)]
+mod tests;
