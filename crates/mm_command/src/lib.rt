@@ -3,6 +3,8 @@
 
 mod line;
 mod reading;
+mod reply;
 
 pub use line::{Find, Line, LineError};
 pub use reading::read_line;
+pub use reply::{done_reply, hits_reply, refused_reply};

@@ -7,5 +7,6 @@ pub mod Forests
 pub mod Order
 pub mod Edits
 pub mod Ways
+pub mod Hits
 pub mod Search
 pub mod Examples

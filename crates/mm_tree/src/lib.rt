@@ -5,6 +5,7 @@
 #![tactic(auto)]
 
 mod forest;
+mod hit;
 pub mod laws;
 mod measure;
 mod node;
@@ -13,6 +14,7 @@ mod refusal;
 mod text;
 
 pub use forest::{Done, Forest, Place};
+pub use hit::{Hit, Hits};
 pub use node::{Node, Nodes};
 pub use plain::{Attribute, Attributes, Kind, Plain, Plains};
 pub use refusal::{Refusal, TreeError};
