@@ -124,6 +124,8 @@ fn lines_and_payloads_are_answered(rt: HostRuntime) -> Result<(), Fail> {
         // The lines of a payload are joined by line feeds, with none at the end.
         (b"load\n<a\n/>\n.\n", b"no 19 xml\n"),
         (b"load\n.\n", b"no 19 xml\n"),
+        // A text is no tree of a forest.
+        (b"load\nagain\n.\n", b"no 20 top\n"),
         // A refusal leaves the forest as it was.
         (b"load\n<a>\n.\nload\n<a/>\n.\n", b"no 19 xml\nok 1 1\n"),
         // The end of the input cuts a payload.
