@@ -7,4 +7,5 @@ pub mod Forests
 pub mod Order
 pub mod Edits
 pub mod Ways
+pub mod Untouched
 pub mod Examples
