@@ -7,6 +7,7 @@ pub mod Forests
 pub mod Order
 pub mod Edits
 pub mod Ways
+pub mod Untouched
 pub mod Hits
 pub mod Search
 pub mod Examples
