@@ -7,4 +7,4 @@ mod reply;
 
 pub use line::{Find, Line, LineError};
 pub use reading::read_line;
-pub use reply::{done_reply, hits_reply, refused_reply};
+pub use reply::{Reply, tree_reply, write_reply};
