@@ -17,10 +17,7 @@ use Rattle.mm_run.specs.Commands.{Begun, grouped}
 use Rattle.mm_run.specs.Input.{Went}
 use Rattle.mm_run.specs.Step.{WentPart, WentRow, WentLastRow, WentCommand, WentLast, WentQuit, WentRest, GivesNext, IsLast, last_payload}
 use Rattle.mm_run.proofs.Going.{went-more}
-
-test-false : {P : Type 0} (test : Bool) → (test ≡ true → P) → ¬ P → test ≡ false
-test-false true holds fails = absurd (fails (holds refl))
-test-false false holds fails = refl
+use Rattle.mm_run.proofs.Tested.{test-false}
 
 -- a whole line comes first
 lines-line : (line more : List ℕ) (ended : Bool) → HasNoLineFeed line → lines (line ++ 10 ∷ more) ended ≡ line ∷ lines more ended

@@ -5,7 +5,8 @@ pub mod Cutting
 pub mod Rows
 pub mod Gathering
 pub mod Heads
-pub mod Unspelled
+pub mod Planning
+pub mod Tested
 pub mod Turns
 pub mod Telling
 pub mod OneReply

@@ -118,7 +118,7 @@ answered-one {a} {b} command h = record { replies = h.0; written = h.2; all = re
 
 quit-form : (f : Form) (payload : Payload) (forest : Trees Labelled) → quits f ≡ true → AnswersForm f payload forest [] forest
 quit-form None payload forest quit = cc
-quit-form (Some line.Quit) payload forest quit = record { line = refl; same = refl }
+quit-form (Some line.Quit) payload forest quit = record { text = refl; same = refl }
 quit-form (Some line.Blank) payload forest quit = cc
 quit-form (Some line.Load) payload forest quit = cc
 quit-form (Some (line.Insert place label)) payload forest quit = cc

@@ -17,9 +17,9 @@ form_of = line_of
 abbrev pub has_payload : Line → Bool
 has_payload Blank = false
 has_payload Load = true
-has_payload (Insert place label) = false
+has_payload (Insert place label) = true
 has_payload (Delete label) = false
-has_payload (Replace label) = false
+has_payload (Replace label) = true
 has_payload (Search find text) = false
 has_payload (Show label) = false
 has_payload Quit = false

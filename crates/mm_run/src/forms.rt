@@ -31,11 +31,9 @@ fn has_payload(line: &Line) -> bool
     ensures { result ≡ has_payload line.now }
 {
     match line {
-        Line::Load => true,
+        Line::Load | Line::Insert { .. } | Line::Replace { .. } => true,
         Line::Blank
-        | Line::Insert { .. }
         | Line::Delete { .. }
-        | Line::Replace { .. }
         | Line::Search { .. }
         | Line::Show { .. }
         | Line::Quit => false,

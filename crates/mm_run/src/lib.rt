@@ -4,11 +4,13 @@
 mod answering;
 mod buffer;
 mod command;
+mod editing;
 mod forms;
 pub mod laws;
 mod line;
 mod payload;
 mod reading;
+mod searching;
 mod serving;
 mod status;
 mod top;
