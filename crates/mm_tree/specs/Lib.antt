@@ -10,4 +10,6 @@ pub mod Ways
 pub mod Untouched
 pub mod Hits
 pub mod Search
+pub mod Searching
+pub mod Found
 pub mod Examples

@@ -208,4 +208,4 @@ impl Forest {
 }
 
 #[cfg(test)]
-mod tests;
+pub mod tests;
