@@ -1,8 +1,8 @@
 // Runs over devices in memory, whole.
-ghost use Rattle.std.specs.Prelude.{◌≡◌, ◌<◌};
+ghost use Rattle.std.specs.Prelude.{◌≡◌, ◌<◌, None};
 
 use super::*;
-use mm_host::{MemSink, MemSource, NoDisk};
+use mm_host::{Failed, MemSink, MemSource, NoDisk, Sink, Source};
 use mm_steps::Steps;
 use std::alloc::{AllocError, Global};
 use std::marker::Brand;
@@ -17,24 +17,30 @@ struct Outcome {
     written: Vec<u8>,
 }
 
-fn run_counted<L: Ledger>(
+/// The number of the status of a run.
+fn run_counted<S: Source, W: Sink, L: Ledger>(
     alloc: Global,
     words: &[String],
-    source: &mut MemSource,
-    sink: &mut MemSink,
+    source: &mut S,
+    sink: &mut W,
     blank: Blank,
-) -> Result<Outcome, AllocError>
+) -> u8
     requires name { blank.name ≡ L.name }
     requires parts { blank.parts ≡ L.parts }
     requires some { 0 < blank.parts }
 {
     let mut steps = Steps::<L>::new(blank);
     let mut disk = NoDisk::new();
-    let status = run(alloc, words, source, sink, &mut disk, &mut steps);
-    Ok(Outcome {
-        number: status.number(),
-        written: Vec::from_slice(alloc, sink.bytes())?,
-    })
+    run(alloc, words, source, sink, &mut disk, &mut steps).number()
+}
+
+fn run_with<S: Source, W: Sink>(
+    alloc: Global,
+    words: &[String],
+    source: &mut S,
+    sink: &mut W,
+) -> u8 {
+    run_counted::<S, W, Brand>(alloc, words, source, sink, Blank::new(1))
 }
 
 /// The program's name, and this many words more.
@@ -57,7 +63,11 @@ fn run_over(
     let mut source = MemSource::new(input, Vec::from_slice(alloc, failing_reads)?);
     let mut sink = MemSink::new(alloc, 4096, Vec::from_slice(alloc, failing_writes)?)?;
     let words = words(alloc, more_words)?;
-    run_counted::<Brand>(alloc, &words, &mut source, &mut sink, Blank::new(1))
+    let number = run_with(alloc, &words, &mut source, &mut sink);
+    Ok(Outcome {
+        number,
+        written: Vec::from_slice(alloc, sink.bytes())?,
+    })
 }
 
 /// Each part so many times, one after the other.
@@ -209,5 +219,64 @@ fn a_source_fails_in_the_middle(rt: HostRuntime) -> Result<(), Fail> {
         assert_eq!(rt; got.number, 2);
         assert_eq!(rt; got.written.as_slice(), written);
     }
+    Ok(())
+}
+
+/// A source that gives one byte at a time, and doesn't tell which.
+#[derive(Drop)]
+struct ByteSource<S: Source> {
+    source: S,
+}
+
+impl<S: Source> Source for ByteSource<S> {
+    ghost left = { λ _. None };
+
+    ghost fault_count = { λ s. S.fault_count s.source };
+
+    fn read(&mut self, into: &mut [u8]) -> Result<usize, Failed> {
+        let most = into.len().min(1);
+        self.source.read(&mut into[..most])
+    }
+
+    fn faults(&self) -> u64 {
+        self.source.faults()
+    }
+}
+
+/// A sink that takes one byte at a time, and doesn't tell which.
+#[derive(Drop)]
+struct ByteSink<W: Sink> {
+    sink: W,
+}
+
+impl<W: Sink> Sink for ByteSink<W> {
+    ghost written = { λ _. None };
+
+    ghost fault_count = { λ s. W.fault_count s.sink };
+
+    fn write(&mut self, piece: &[u8]) -> Result<usize, Failed> {
+        let most = piece.len().min(1);
+        self.sink.write(&piece[..most])
+    }
+
+    fn faults(&self) -> u64 {
+        self.sink.faults()
+    }
+}
+
+#[test]
+fn streams_of_single_bytes_are_read_and_written_whole(rt: HostRuntime) -> Result<(), Fail> {
+    let alloc = rt.alloc();
+    let input = Vec::from_slice(alloc, b"load\r\n<a>\n..x\n</a>\n.\nfrob\nquit\n")?;
+    let mut source = ByteSource {
+        source: MemSource::new(input, Vec::new(alloc)),
+    };
+    let mut sink = ByteSink {
+        sink: MemSink::new(alloc, 64, Vec::new(alloc))?,
+    };
+    let words = words(alloc, 0)?;
+    let number = run_with(alloc, &words, &mut source, &mut sink);
+    assert_eq!(rt; number, 0);
+    assert_eq!(rt; sink.sink.bytes(), b"ok 1 2\nno 10 command\n".as_slice());
     Ok(())
 }

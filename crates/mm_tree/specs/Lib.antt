@@ -8,4 +8,6 @@ pub mod Order
 pub mod Edits
 pub mod Ways
 pub mod Untouched
+pub mod Search
 pub mod Examples
+pub mod EditExamples

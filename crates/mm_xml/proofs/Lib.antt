@@ -8,3 +8,4 @@ pub mod Levels
 pub mod Productions
 pub mod Valid
 pub mod Answered
+pub mod WriterFacts

@@ -4,3 +4,5 @@ pub mod Skimming
 pub mod Lexemes
 pub mod Answers
 pub mod Builds
+pub mod Writing
+pub mod Pending

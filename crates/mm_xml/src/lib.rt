@@ -8,9 +8,11 @@ mod outline;
 mod reader;
 mod stack;
 mod token;
+mod writer;
 
 pub use error::XmlError;
 pub use reader::read;
+pub use writer::write;
 
 #[cfg(test)]
 mod tests;

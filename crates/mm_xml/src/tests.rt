@@ -1,5 +1,5 @@
-use crate::{XmlError, read};
-use mm_tree::{Kind, Plain};
+use crate::{XmlError, read, write};
+use mm_tree::{Forest, Kind, Plain};
 use std::alloc::{AllocError, Global};
 use std::test::Fail;
 
@@ -186,5 +186,17 @@ fn gives_the_tree(rt: HostRuntime) -> Result<(), Fail> {
         let child = tree.children.get(at).ok_or("a child")?;
         assert!(rt; shown(child).0.as_bytes() == want.as_bytes(), "at {at}");
     }
+    Ok(())
+}
+
+#[test]
+fn writes_the_tree(rt: HostRuntime) -> Result<(), Fail> {
+    let tree = read(rt.alloc(), b"<a> <b></b> \"x\"\ny <c>z</c></a>")?;
+    let mut forest = Forest::new(rt.alloc());
+    forest.load(rt.alloc(), tree)?;
+    let root = forest.trees().first().ok_or("a tree")?;
+    let bytes = write(rt.alloc(), root)?;
+    let want = b"<a><b/> \"x\"&#10;y <c>z</c></a>";
+    assert_eq!(rt; bytes.as_slice(), want.as_slice());
     Ok(())
 }

@@ -1,0 +1,8 @@
+//! Command lines and replies: what a line asks for, and how an answer is written.
+#![tactic(auto)]
+
+mod line;
+mod reading;
+
+pub use line::{Find, Line, LineError};
+pub use reading::read_line;

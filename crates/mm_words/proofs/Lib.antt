@@ -1,0 +1,4 @@
+pub mod Sets
+pub mod Cutting
+pub mod Occurrences
+pub mod QueryFacts
