@@ -4,7 +4,6 @@
 mod line;
 mod reading;
 mod reply;
-
 #[cfg(test)]
 mod tests;
 

@@ -32,11 +32,8 @@ fn has_payload(line: &Line) -> bool
 {
     match line {
         Line::Load | Line::Insert { .. } | Line::Replace { .. } => true,
-        Line::Blank
-        | Line::Delete { .. }
-        | Line::Search { .. }
-        | Line::Show { .. }
-        | Line::Quit => false,
+        Line::Blank | Line::Delete { .. } | Line::Search { .. } | Line::Show { .. } | Line::Quit =>
+            false,
     }
 }
 

@@ -38,7 +38,12 @@ fn hits_of(alloc: Global, forest: &Forest, labels: &[Label]) -> Result<Hits, All
 }
 
 /// The labels that a search finds.
-fn answers(alloc: Global, forest: &Forest, find: Find, query: &Query) -> Result<Items<Label>, AllocError>
+fn answers(
+    alloc: Global,
+    forest: &Forest,
+    find: Find,
+    query: &Query,
+) -> Result<Items<Label>, AllocError>
     ensures { IfOk result (λ labels. labels ≡ answers find query.now (forest_of forest.now)) }
 {
     match find {
@@ -47,7 +52,12 @@ fn answers(alloc: Global, forest: &Forest, find: Find, query: &Query) -> Result<
 }
 
 /// What a search for the words of a text is answered.
-pub fn answer_search(alloc: Global, forest: &Forest, find: Find, text: &Text) -> Result<Vec<u8>, AllocError>
+pub fn answer_search(
+    alloc: Global,
+    forest: &Forest,
+    find: Find,
+    text: &Text,
+) -> Result<Vec<u8>, AllocError>
     ensures { IfOk result (λ reply. AnswersSearch find text.now (forest_of forest.now) reply.items (forest_of forest.now)) }
 {
     match query(alloc, text.as_str()) {

@@ -284,7 +284,8 @@ fn streams_of_single_bytes_are_read_and_written_whole(rt: HostRuntime) -> Result
 }
 
 /// The bibliography of two books, as one payload.
-const LOAD_BOOKS: &[u8] = b"load\n<bib><book><title>XML search</title><author>Liu</author></book><book><title>Keyword search</title><author>Chen</author></book></bib>\n.\n";
+const LOAD_BOOKS: &[u8] =
+    b"load\n<bib><book><title>XML search</title><author>Liu</author></book><book><title>Keyword search</title><author>Chen</author></book></bib>\n.\n";
 
 /// A run over the bibliography and then this input ends with status 0 and writes, behind the reply to
 /// the load, this.
@@ -302,7 +303,10 @@ fn expect_on_books<R: Abort>(
 #[test]
 fn smallest_answers_are_found(rt: HostRuntime) -> Result<(), Fail> {
     let table = [
-        (b"slca search liu\n".as_slice(), b"hits 1\n1.1 book\n".as_slice()),
+        (
+            b"slca search liu\n".as_slice(),
+            b"hits 1\n1.1 book\n".as_slice(),
+        ),
         (b"slca search\n", b"hits 2\n1.1.1.1 #text\n1.3.1.1 #text\n"),
         (b"slca liu chen\n", b"hits 1\n1 bib\n"),
         (b"slca Search SEARCH liu\n", b"hits 1\n1.1 book\n"),
@@ -322,7 +326,10 @@ fn documents_are_searched_apart(rt: HostRuntime) -> Result<(), Fail> {
     expect_replies(
         &rt,
         rt.alloc(),
-        &[(b"load\n<a>xml</a>\n.\nload\n<b>liu</b>\n.\nslca xml liu\nslca b liu\n", 1)],
+        &[(
+            b"load\n<a>xml</a>\n.\nload\n<b>liu</b>\n.\nslca xml liu\nslca b liu\n",
+            1,
+        )],
         b"ok 1 2\nok 3 2\nhits 0\nhits 1\n3 b\n",
     )?;
     Ok(())
@@ -330,7 +337,8 @@ fn documents_are_searched_apart(rt: HostRuntime) -> Result<(), Fail> {
 
 #[test]
 fn queries_end_at_their_limits(rt: HostRuntime) -> Result<(), Fail> {
-    let words = b"slca a b c d e f g h i j k l m n o p q r s t u v w x y z aa bb cc dd ee ff".as_slice();
+    let words =
+        b"slca a b c d e f g h i j k l m n o p q r s t u v w x y z aa bb cc dd ee ff".as_slice();
     for (more, written) in [
         (b"\n".as_slice(), b"ok 1 1\nhits 0\n".as_slice()),
         (b" A gg\n", b"ok 1 1\nno 15 many\n"),
@@ -376,17 +384,26 @@ fn labels_never_move(rt: HostRuntime) -> Result<(), Fail> {
 #[test]
 fn the_first_cause_is_told(rt: HostRuntime) -> Result<(), Fail> {
     let table = [
-        (b"show 1.2\nshow 01\n".as_slice(), b"no 13 label\nno 13 label\n".as_slice()),
+        (
+            b"show 1.2\nshow 01\n".as_slice(),
+            b"no 13 label\nno 13 label\n".as_slice(),
+        ),
         (b"delete x\ndelete 1.7\n", b"no 13 label\nno 17 absent\n"),
         (b"insert first 1.1.1.1\n<x>\n.\n", b"no 18 leaf\n"),
         (b"insert before 1.7\n<x>\n.\n", b"no 17 absent\n"),
         (b"insert before x\n<x>\n.\n", b"no 13 label\n"),
         (b"insert before 1.1\n<x>\n.\n", b"no 19 xml\n"),
         (b"replace 1.7\n<x>\n.\n", b"no 17 absent\n"),
-        (b"insert before 1\nhello\n.\nreplace 1\nhello\n.\n", b"no 20 top\nno 20 top\n"),
+        (
+            b"insert before 1\nhello\n.\nreplace 1\nhello\n.\n",
+            b"no 20 top\nno 20 top\n",
+        ),
         (b"load\nhello\n.\nload\n \n.\n", b"no 20 top\nno 19 xml\n"),
         (b"load\n<a><b></a>\n.\n", b"no 19 xml\n"),
-        (b"insert middle 1\nfrob\n", b"no 10 command\nno 10 command\n"),
+        (
+            b"insert middle 1\nfrob\n",
+            b"no 10 command\nno 10 command\n",
+        ),
         (b"insert before x\n<x/>", b"no 10 command\n"),
     ];
     for (input, written) in table {
