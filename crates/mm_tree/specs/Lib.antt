@@ -8,13 +8,9 @@ pub mod Order
 pub mod Edits
 pub mod Ways
 pub mod Untouched
-<<<<<<< HEAD
 pub mod Hits
 pub mod Search
 pub mod Searching
 pub mod Found
-=======
-pub mod Search
->>>>>>> 35bc09d519b0afd82c93c644385ccaad915431d0
 pub mod Examples
 pub mod EditExamples
