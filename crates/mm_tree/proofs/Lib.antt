@@ -9,3 +9,4 @@ pub mod PlaceFacts
 pub mod TestFacts
 pub mod FlagFacts
 pub mod SearchFacts
+pub mod SmallestLaws

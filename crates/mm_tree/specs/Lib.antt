@@ -8,6 +8,7 @@ pub mod Order
 pub mod Edits
 pub mod Ways
 pub mod Search
+pub mod Smallest
 pub mod Searching
 pub mod Found
 pub mod Examples
