@@ -17,3 +17,4 @@ pub mod EditFacts
 pub mod TestFacts
 pub mod FlagFacts
 pub mod SearchFacts
+pub mod SmallestLaws

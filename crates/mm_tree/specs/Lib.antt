@@ -10,6 +10,7 @@ pub mod Ways
 pub mod Untouched
 pub mod Hits
 pub mod Search
+pub mod Smallest
 pub mod Searching
 pub mod Found
 pub mod Examples
