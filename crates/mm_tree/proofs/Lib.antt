@@ -7,3 +7,5 @@ pub mod OrderLaws
 pub mod WayLaws
 pub mod PlaceFacts
 pub mod TestFacts
+pub mod FlagFacts
+pub mod SearchFacts

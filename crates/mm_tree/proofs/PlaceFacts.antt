@@ -1,13 +1,11 @@
 -- Walks over a list of nodes, and the definitions over trees.
 use Rattle.std.proofs.Common.{◌≡◌, refl, ap, sym, ◌∙◌, ℕ, zero, suc, ◌+◌, ◌≤◌, Bool, true, false, not, List, [], ◌∷◌, length, cond, arith}
 use Rattle.std.specs.Prelude.{ℤ, Option, Some, None, if◌then◌else◌, slice_get}
-use Rattle.std.specs.List.{prefix_len, starts_with}
-use Rattle.std.specs.Ordering.{int_eq}
-use Rattle.std.specs.Cmp.Lexicographic.{pointwise}
+use Rattle.std.specs.List.{prefix_len}
 use Rattle.mm_tree.specs.declared.node.Node.{Node}
 use Rattle.mm_tree.specs.declared.node.Node.TheViews.{out-Node}
 use Rattle.mm_tree.specs.declared.node.Node.TheFolds.{fold_out-Node}
-use Rattle.mm_tree.specs.Trees.{Trees, none, node, Tree}
+use Rattle.mm_tree.specs.Trees.{node, Tree}
 use Rattle.mm_tree.specs.Numbering.{Labelled, node_of, node_step, forest_of}
 use Rattle.mm_tree.specs.Edits.{has_label}
 use Rattle.mm_tree.specs.Ways.{leads_to, found_down}

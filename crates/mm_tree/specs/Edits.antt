@@ -1,5 +1,5 @@
 -- Edits of a forest: the node that is meant, and what an edit leaves.
-use Rattle.std.specs.Prelude.{ℤ, Bool, true, false, ◌||◌, List, [], ◌∷◌, ◌≡◌, refl, Option, Some, None, if◌then◌else◌}
+use Rattle.std.specs.Prelude.{ℤ, Bool, false, ◌||◌, List, Option, Some, None, if◌then◌else◌}
 use Rattle.std.specs.Ordering.{int_eq}
 use Rattle.std.specs.Cmp.Lexicographic.{pointwise}
 use Rattle.mm_tree.specs.Trees.{Trees, none, node, Tree}

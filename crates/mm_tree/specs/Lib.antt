@@ -8,4 +8,6 @@ pub mod Order
 pub mod Edits
 pub mod Ways
 pub mod Search
+pub mod Searching
+pub mod Found
 pub mod Examples

@@ -170,4 +170,4 @@ impl Forest {
 }
 
 #[cfg(test)]
-mod tests;
+pub mod tests;

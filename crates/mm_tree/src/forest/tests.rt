@@ -54,7 +54,7 @@ fn book(alloc: Global, title: &str, author: &str) -> Result<Plain, AllocError>
 }
 
 #[tactic(auto, unfolding(crate::specs::Examples::bibliography))]
-fn bibliography(alloc: Global) -> Result<Plain, AllocError>
+pub fn bibliography(alloc: Global) -> Result<Plain, AllocError>
     ensures { IfOk result (λ t. tree_of t ≡ bibliography) }
 {
     let mut inner = Vec::new(alloc);
