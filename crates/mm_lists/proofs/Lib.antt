@@ -7,4 +7,7 @@ pub mod Segments
 pub mod Below
 pub mod Listed
 pub mod Shorter
+pub mod Gathering
+pub mod Lookups
 pub mod Refusing
+pub mod Keeping

@@ -3,3 +3,4 @@ pub mod Causes
 pub mod Fronts
 pub mod Formed
 pub mod Shortest
+pub mod Memory

@@ -5,8 +5,13 @@
 pub mod laws;
 mod lists;
 mod matches;
+mod memory;
 mod shortest;
 
 pub use lists::Lists;
 pub use matches::candidate;
+pub use memory::MemLists;
 pub use shortest::{Shortest, find_shortest};
+
+#[cfg(test)]
+mod tests;

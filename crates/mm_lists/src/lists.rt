@@ -1,4 +1,4 @@
-ghost use Rattle.std.specs.Prelude.{◌≡◌, ◌+◌, ℕ, Bool, IfOk, IfErr, length};
+ghost use Rattle.std.specs.Prelude.{◌≡◌, ◌↔◌, ◌+◌, ℕ, Bool, IfOk, IfErr, length};
 ghost use Rattle.mm_tree.specs.Trees.{Trees};
 ghost use Rattle.mm_tree.specs.Numbering.{Labelled};
 ghost use Rattle.mm_tree.specs.Search.{list_of, worded};
@@ -33,7 +33,7 @@ pub trait Lists {
     /// How many nodes the list of the word has.
     fn count<L: Ledger>(&mut self, word: &Word, steps: &mut Steps<L>) -> Result<u64, Fault>
         ensures value { (f : Trees Labelled) → stands self.old f → IfOk result (λ n. n ≡ length (list_of word.now (worded f))) }
-        ensures kept { (f : Trees Labelled) → stands self.old f → stands self.new f }
+        ensures kept { (f : Trees Labelled) → stands self.old f ↔ stands self.new f }
         ensures ground { same_ground self.old self.new }
         ensures ticks { steps.new ≡ steps.old + 1 }
         ensures cause { Caused (fault_count self.old) (fault_count self.new) (spent self.old) (spent self.new) result }
@@ -46,7 +46,7 @@ pub trait Lists {
         steps: &mut Steps<L>,
     ) -> Result<Option<Label>, Fault>
         ensures value { (f : Trees Labelled) → stands self.old f → IfOk result (λ o. o ≡ head_of (list_of word.now (worded f))) }
-        ensures kept { (f : Trees Labelled) → stands self.old f → stands self.new f }
+        ensures kept { (f : Trees Labelled) → stands self.old f ↔ stands self.new f }
         ensures ground { same_ground self.old self.new }
         ensures ticks { steps.new ≡ steps.old + 1 }
         ensures cause { Caused (fault_count self.old) (fault_count self.new) (spent self.old) (spent self.new) result }
@@ -60,7 +60,7 @@ pub trait Lists {
         steps: &mut Steps<L>,
     ) -> Result<Option<Label>, Fault>
         ensures value { (f : Trees Labelled) → stands self.old f → IfOk result (λ o. IsNext (list_of word.now (worded f)) at.now o) }
-        ensures kept { (f : Trees Labelled) → stands self.old f → stands self.new f }
+        ensures kept { (f : Trees Labelled) → stands self.old f ↔ stands self.new f }
         ensures ground { same_ground self.old self.new }
         ensures ticks { steps.new ≡ steps.old + 1 }
         ensures cause { Caused (fault_count self.old) (fault_count self.new) (spent self.old) (spent self.new) result }
@@ -74,7 +74,7 @@ pub trait Lists {
         steps: &mut Steps<L>,
     ) -> Result<Option<Label>, Fault>
         ensures value { (f : Trees Labelled) → stands self.old f → IfOk result (λ o. IsLeft (list_of word.now (worded f)) at.now o) }
-        ensures kept { (f : Trees Labelled) → stands self.old f → stands self.new f }
+        ensures kept { (f : Trees Labelled) → stands self.old f ↔ stands self.new f }
         ensures ground { same_ground self.old self.new }
         ensures ticks { steps.new ≡ steps.old + 1 }
         ensures cause { Caused (fault_count self.old) (fault_count self.new) (spent self.old) (spent self.new) result }
@@ -88,7 +88,7 @@ pub trait Lists {
         steps: &mut Steps<L>,
     ) -> Result<Option<Label>, Fault>
         ensures value { (f : Trees Labelled) → stands self.old f → IfOk result (λ o. IsRight (list_of word.now (worded f)) at.now o) }
-        ensures kept { (f : Trees Labelled) → stands self.old f → stands self.new f }
+        ensures kept { (f : Trees Labelled) → stands self.old f ↔ stands self.new f }
         ensures ground { same_ground self.old self.new }
         ensures ticks { steps.new ≡ steps.old + 1 }
         ensures cause { Caused (fault_count self.old) (fault_count self.new) (spent self.old) (spent self.new) result }
@@ -102,7 +102,7 @@ pub trait Lists {
         steps: &mut Steps<L>,
     ) -> Result<Option<Label>, Fault>
         ensures value { (f : Trees Labelled) → stands self.old f → IfOk result (λ o. IsRightPast (list_of word.now (worded f)) at.now o) }
-        ensures kept { (f : Trees Labelled) → stands self.old f → stands self.new f }
+        ensures kept { (f : Trees Labelled) → stands self.old f ↔ stands self.new f }
         ensures ground { same_ground self.old self.new }
         ensures ticks { steps.new ≡ steps.old + 1 }
         ensures cause { Caused (fault_count self.old) (fault_count self.new) (spent self.old) (spent self.new) result }

@@ -1,7 +1,7 @@
 //! The deepest node above a given one at which every list is met, by left and right matches (Indexed
 //! Lookup Eager: Xu and Papakonstantinou, SIGMOD 2005).
 
-ghost use Rattle.std.specs.Prelude.{◌≡◌, ◌+◌, ◌*◌, ◌≤◌, ◌<◌, List, [], ◌∷◌, ◌++◌, IfOk, IfErr, IsTrue, true, length, get_or};
+ghost use Rattle.std.specs.Prelude.{◌≡◌, ◌↔◌, ◌+◌, ◌*◌, ◌≤◌, ◌<◌, List, [], ◌∷◌, ◌++◌, IfOk, IfErr, IsTrue, true, length, get_or};
 ghost use Rattle.mm_tree.specs.Trees.{Trees};
 ghost use Rattle.mm_tree.specs.Numbering.{Labelled};
 ghost use Rattle.mm_tree.specs.Forests.{is_well_formed};
@@ -76,7 +76,7 @@ fn narrow_by<X: Lists, L: Ledger>(
 ) -> Result<Option<Label>, Fault>
     ensures value { (f : Trees Labelled) (ls : List (List Label)) → X.stands lists.old f → Meets [] (list_of word.now (worded f)) → IsCandidate ls v.now (or_empty x)
         → IfOk result (λ y. IsCandidate (ls ++ list_of word.now (worded f) ∷ []) v.now (or_empty y)) }
-    ensures kept { (f : Trees Labelled) → X.stands lists.old f → X.stands lists.new f }
+    ensures kept { (f : Trees Labelled) → X.stands lists.old f ↔ X.stands lists.new f }
     ensures ground { X.same_ground lists.old lists.new }
     ensures cause { Caused (X.fault_count lists.old) (X.fault_count lists.new) (X.spent lists.old) (X.spent lists.new) result }
     ensures sound { (f : Trees Labelled) → X.stands lists.old f → IfErr result IsSound }
@@ -100,7 +100,7 @@ fn narrow_at<X: Lists, L: Ledger>(
 ) -> Result<Option<Label>, Fault>
     ensures value { (f : Trees Labelled) (ls : List (List Label)) → X.stands lists.old f → Meets [] (list_of word.now (worded f)) → (skip ≡ true → Within v.now (list_of word.now (worded f))) → IsCandidate ls v.now (or_empty x)
         → IfOk result (λ y. IsCandidate (ls ++ list_of word.now (worded f) ∷ []) v.now (or_empty y)) }
-    ensures kept { (f : Trees Labelled) → X.stands lists.old f → X.stands lists.new f }
+    ensures kept { (f : Trees Labelled) → X.stands lists.old f ↔ X.stands lists.new f }
     ensures ground { X.same_ground lists.old lists.new }
     ensures cause { Caused (X.fault_count lists.old) (X.fault_count lists.new) (X.spent lists.old) (X.spent lists.new) result }
     ensures sound { (f : Trees Labelled) → X.stands lists.old f → IfErr result IsSound }
@@ -126,7 +126,7 @@ pub fn candidate<X: Lists, L: Ledger>(
     requires { own < length words.now }
     ensures value { (f : Trees Labelled) → IsTrue (is_well_formed f) → X.stands lists.old f → Full [] (lists_of words.now (worded f)) → Within v.now (list_of (get_or words.now own []) (worded f))
         → IfOk result (λ c. IsCandidate (lists_of words.now (worded f)) v.now (or_empty c)) }
-    ensures kept { (f : Trees Labelled) → X.stands lists.old f → X.stands lists.new f }
+    ensures kept { (f : Trees Labelled) → X.stands lists.old f ↔ X.stands lists.new f }
     ensures ground { X.same_ground lists.old lists.new }
     ensures cause { Caused (X.fault_count lists.old) (X.fault_count lists.new) (X.spent lists.old) (X.spent lists.new) result }
     ensures sound { (f : Trees Labelled) → X.stands lists.old f → IfErr result IsSound }

@@ -1,4 +1,4 @@
-ghost use Rattle.std.specs.Prelude.{◌≡◌, ◌+◌, ◌≤◌, ◌<◌, IfOk, IfErr, length};
+ghost use Rattle.std.specs.Prelude.{◌≡◌, ◌↔◌, ◌+◌, ◌≤◌, ◌<◌, IfOk, IfErr, length};
 ghost use Rattle.mm_tree.specs.Trees.{Trees};
 ghost use Rattle.mm_tree.specs.Numbering.{Labelled};
 ghost use Rattle.mm_tree.specs.Search.{worded};
@@ -37,7 +37,7 @@ pub fn find_shortest<X: Lists, L: Ledger>(
     requires { 0 < length words.now }
     ensures value { (f : Trees Labelled) → X.stands lists.old f → IfOk result (λ s. IsShortest words.now (worded f) s.at s.size) }
     ensures within { IfOk result (λ s. s.at < length words.now) }
-    ensures kept { (f : Trees Labelled) → X.stands lists.old f → X.stands lists.new f }
+    ensures kept { (f : Trees Labelled) → X.stands lists.old f ↔ X.stands lists.new f }
     ensures ground { X.same_ground lists.old lists.new }
     ensures cause { Caused (X.fault_count lists.old) (X.fault_count lists.new) (X.spent lists.old) (X.spent lists.new) result }
     ensures sound { (f : Trees Labelled) → X.stands lists.old f → IfErr result IsSound }

@@ -7,3 +7,6 @@ mod search;
 mod walk;
 
 pub use search::answers;
+
+#[cfg(test)]
+mod tests;

@@ -1,4 +1,4 @@
-ghost use Rattle.std.specs.Prelude.{◌≡◌, ◌+◌, ◌*◌, ◌≤◌, ◌<◌, ℕ, [], IfOk, IfErr, IsTrue, length, get_or};
+ghost use Rattle.std.specs.Prelude.{◌≡◌, ◌↔◌, ◌+◌, ◌*◌, ◌≤◌, ◌<◌, ℕ, [], IfOk, IfErr, IsTrue, length, get_or};
 ghost use Rattle.mm_tree.specs.Trees.{Trees};
 ghost use Rattle.mm_tree.specs.Numbering.{Labelled};
 ghost use Rattle.mm_tree.specs.Forests.{is_well_formed};
@@ -32,7 +32,7 @@ fn pass<X: Lists, L: Ledger>(
     ensures value { (f : Trees Labelled) (i : ℕ) → IsTrue (is_well_formed f) → X.stands lists.old f → Full [] (lists_of words.now (worded f))
         → Stands (lists_of words.now (worded f)) (list_of (get_or words.now own []) (worded f)) i walk.old.done (or_empty walk.old.held) at
         → IfOk result (λ next. Stands (lists_of words.now (worded f)) (list_of (get_or words.now own []) (worded f)) (i + 1) walk.new.done (or_empty walk.new.held) next) }
-    ensures kept { (f : Trees Labelled) → X.stands lists.old f → X.stands lists.new f }
+    ensures kept { (f : Trees Labelled) → X.stands lists.old f ↔ X.stands lists.new f }
     ensures ground { X.same_ground lists.old lists.new }
     ensures cause { Caused (X.fault_count lists.old) (X.fault_count lists.new) (X.spent lists.old) (X.spent lists.new) result }
     ensures sound { (f : Trees Labelled) → X.stands lists.old f → IfErr result IsSound }
@@ -61,7 +61,7 @@ fn walk_list<X: Lists, L: Ledger>(
     requires { own < length words.now }
     ensures value { (f : Trees Labelled) → IsTrue (is_well_formed f) → X.stands lists.old f → Full [] (lists_of words.now (worded f)) → length (list_of (get_or words.now own []) (worded f)) ≡ size
         → IfOk result (λ r. r ≡ slca words.now (worded f)) }
-    ensures kept { (f : Trees Labelled) → X.stands lists.old f → X.stands lists.new f }
+    ensures kept { (f : Trees Labelled) → X.stands lists.old f ↔ X.stands lists.new f }
     ensures ground { X.same_ground lists.old lists.new }
     ensures cause { Caused (X.fault_count lists.old) (X.fault_count lists.new) (X.spent lists.old) (X.spent lists.new) result }
     ensures sound { (f : Trees Labelled) → X.stands lists.old f → IfErr result IsSound }
@@ -95,7 +95,7 @@ pub fn answers<X: Lists, L: Ledger>(
     steps: &mut Steps<L>,
 ) -> Result<Items<Label>, Fault>
     ensures value { (f : Trees Labelled) → IsTrue (is_well_formed f) → X.stands lists.old f → IfOk result (λ r. r ≡ slca query.now (worded f)) }
-    ensures kept { (f : Trees Labelled) → X.stands lists.old f → X.stands lists.new f }
+    ensures kept { (f : Trees Labelled) → X.stands lists.old f ↔ X.stands lists.new f }
     ensures ground { X.same_ground lists.old lists.new }
     ensures cause { Caused (X.fault_count lists.old) (X.fault_count lists.new) (X.spent lists.old) (X.spent lists.new) result }
     ensures sound { (f : Trees Labelled) → X.stands lists.old f → IfErr result IsSound }

@@ -5,11 +5,12 @@ use Rattle.mm_lists.specs.Fronts.{Label, Word, IsCandidate, or_empty, Meets, Wit
 use Rattle.mm_lists.proofs.Segments.{formed}
 use Rattle.mm_lists.proofs.Candidates.{candidate_first}
 use Rattle.mm_lists.proofs.Listed.{get_same, listed_whole, lists_more, full_at}
+use Rattle.mm_lists.proofs.Keeping.{kept_along, kept_same}
 use Rattle.mm_lists.proofs.matches.candidate.Goals as goal
 
 pub loop-i-init : goal.loop-i-init
 loop-i-init g c = record {
-  kept = λ f s. s;
+  kept = λ f. kept_same _;
   ground = g.met.X.Lists.same_itself _;
   later = omega arith;
   unspent = λ e. e;
@@ -20,7 +21,7 @@ loop-i-init g c = record {
 
 pub loop-i-preserved : goal.loop-i-preserved
 loop-i-preserved g c = record {
-  kept = λ f s. c.narrow_at.ensures.kept f (c.loop-i.invariant.kept f s);
+  kept = λ f. kept_along _ _ _ (c.loop-i.invariant.kept f) (c.narrow_at.ensures.kept f);
   ground = g.met.X.Lists.same_along _ _ _ c.loop-i.invariant.ground c.narrow_at.ensures.ground;
   later = omega (arith, c.narrow_at.ensures.cause.later, c.loop-i.invariant.later);
   unspent = λ e. c.loop-i.invariant.unspent (c.in_ok-x.ensures.cause.ok e);
@@ -33,7 +34,7 @@ loop-i-preserved g c = record {
       let e : c.index-words-i.result ≡ get_or c.args.words.now c.loop-i.i [] = c.index-words-i.is ∙ get_same c.args.words.now c.loop-i.i c.index-words-i.result [] c.loop-i-test.true in
       subst (λ (ls : List (List Label)). IsCandidate ls c.args.v.now (or_empty c.in_ok-x.x))
       (ap (λ (q : Word). lists_of (take c.loop-i.i c.args.words.now) (worded f) ++ list_of q (worded f) ∷ []) e ∙ sym (lists_more c.args.words.now c.loop-i.i (worded f) c.loop-i-test.true))
-      (c.in_ok-x.ensures.value f _ (c.loop-i.invariant.kept f s)
+      (c.in_ok-x.ensures.value f _ ((c.loop-i.invariant.kept f).0 s)
       (subst (λ (q : Word). Meets [] (list_of q (worded f))) (sym e) (full_at c.args.words.now c.loop-i.i [] (worded f) c.loop-i-test.true n))
       (λ k. subst (λ (q : Word). Within c.args.v.now (list_of q (worded f))) (ap (λ (j : ℕ). get_or c.args.words.now j []) (sym (eqb-true c.loop-i.i c.args.own k)) ∙ sym e) h)
       (c.loop-i.invariant.value f w s n h));

@@ -1,5 +1,5 @@
 use Rattle.std.proofs.Common.{true, ◌≡◌, ◌+◌, ◌*◌, ◌≤◌, ◌<◌, [], get_or, take}
-use Rattle.std.specs.Prelude.{IsTrue}
+use Rattle.std.specs.Prelude.{◌↔◌, IsTrue}
 use Rattle.mm_tree.specs.Trees.{Trees}
 use Rattle.mm_tree.specs.Numbering.{Labelled}
 use Rattle.mm_tree.specs.Forests.{is_well_formed}
@@ -9,7 +9,7 @@ use Rattle.mm_lists.proofs.matches.candidate.Given as goal
 
 abbrev pub invariant-loop-i : goal.invariant-loop-i
 invariant-loop-i g l = record {
-  kept : (f : Trees Labelled) → g.X.Lists.stands l.initial.lists f → g.X.Lists.stands l.lists f;
+  kept : (f : Trees Labelled) → g.X.Lists.stands l.initial.lists f ↔ g.X.Lists.stands l.lists f;
   ground : g.X.Lists.same_ground l.fn.lists l.lists;
   later : g.X.Lists.fault_count l.fn.lists ≤ g.X.Lists.fault_count l.lists;
   unspent : g.X.Lists.spent l.lists ≡ true → g.X.Lists.spent l.fn.lists ≡ true;

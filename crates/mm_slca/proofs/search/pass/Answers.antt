@@ -24,4 +24,4 @@ returns-in_ok-walk-in-Some-clause-value g c = λ f i w s n k.
     (c.in_ok-walk-in-Some.ensures.0 ∙ ap (λ (h : Option Label). taken_done c.args.walk.now.done (or_empty h) (or_empty c.in_ok-next-in-Some.next)) c.take-held.ensures.value)
     (c.in_ok-walk-in-Some.ensures.1 ∙ ap (λ (h : Option Label). taken_held (or_empty h) (or_empty c.in_ok-next-in-Some.next)) c.take-held.ensures.value)
     (next_match ms c.in-Some.v o (subst (λ (q : Word). IsNext (list_of q (worded f)) c.in-Some.v o) e h)))
-    (c.next.ensures.value f (c.candidate.ensures.kept f s))
+    (c.next.ensures.value f ((c.candidate.ensures.kept f).0 s))

@@ -11,7 +11,7 @@ use Rattle.mm_slca.proofs.search.walk_list.Goals as goal
 
 pub loop-i-init : goal.loop-i-init
 loop-i-init g c = record {
-  kept = λ f s. c.first.ensures.kept f s;
+  kept = λ f. c.first.ensures.kept f;
   ground = c.first.ensures.ground;
   later = c.first.ensures.cause.later;
   unspent = c.in_ok-at.ensures.cause.ok;
