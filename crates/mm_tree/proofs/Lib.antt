@@ -6,6 +6,15 @@ pub mod LoadFacts
 pub mod OrderLaws
 pub mod WayLaws
 pub mod PlaceFacts
+pub mod GapFacts
+pub mod FormLaws
+pub mod EveryLaws
+pub mod LevelLaws
+pub mod UntouchedLaws
+pub mod OpenFacts
+pub mod SizeFacts
+pub mod EditFacts
 pub mod TestFacts
 pub mod FlagFacts
 pub mod SearchFacts
+pub mod SmallestLaws

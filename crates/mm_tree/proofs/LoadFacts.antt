@@ -36,14 +36,14 @@ test_is : (b : Bool) (v : ℤ) (cs : List ℤ) (c : ℤ) → cond (not b) (Some 
 test_is true v cs c h f = f h
 test_is false v cs c h f = refl
 
-out_of_range : (cs : List ℤ) (v : ℤ) → first_out cs ≡ Some v → all_in_range cs ≡ false
+pub out_of_range : (cs : List ℤ) (v : ℤ) → first_out cs ≡ Some v → all_in_range cs ≡ false
 out_of_range [] v h = absurd cc
 out_of_range (c ∷ cs) v h = test_is (is_in_range c) v cs c h (out_of_range cs v)
 
-no_fit : (a b : Bool) → a ≡ false → (a && b) ≡ false
+pub no_fit : (a b : Bool) → a ≡ false → (a && b) ≡ false
 no_fit a b e = rw e refl
 
-no_fit_either : (a b : Bool) → b ≡ false → (a && b) ≡ false
+pub no_fit_either : (a b : Bool) → b ≡ false → (a && b) ≡ false
 no_fit_either true b e = e
 no_fit_either false b e = refl
 
@@ -65,7 +65,7 @@ label_fits x h = both_true (all_in_range x) _ h.in_range (le-leb (length (bytes_
 -- ---- the last tree's segment
 
 -- a segment is no label and one more segment
-alone : (front s : List ℤ) → is_segment (front ++ s) ≡ true → is_segment s ≡ true → last_odd false front ≡ true → ⊥
+pub alone : (front s : List ℤ) → is_segment (front ++ s) ≡ true → is_segment s ≡ true → last_odd false front ≡ true → ⊥
 alone [] s w h o = absurd cc
 alone (c ∷ front) s w h o = by_test (is_odd c) front s w h o (alone front s)
   where
@@ -175,7 +175,7 @@ forest_loaded ns ms n t x pushed is label =
     ∙ forest_behind ns n
     ∙ ap (λ (u : Tree Labelled). and_then (forest_of ns) (one u)) (is ∙ ap (λ z. number z t) label)
 
-rises_is : (left : Option (List ℤ)) (s : List ℤ) → IfSome left (λ l. IsBefore l s) → rises left s ≡ true
+pub rises_is : (left : Option (List ℤ)) (s : List ℤ) → IfSome left (λ l. IsBefore l s) → rises left s ≡ true
 rises_is None s h = refl
 rises_is (Some l) s h = ap is_lt h
 

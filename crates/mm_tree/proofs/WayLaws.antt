@@ -1,20 +1,21 @@
 -- In a well-formed forest the way down by labels misses nothing.
-use Rattle.std.proofs.Common.{◌≡◌, refl, ap, sym, ◌∙◌, Bool, true, false, ◌||◌, not, List, [], ◌∷◌, ◌++◌, append_assoc, true≢false}
+use Rattle.std.proofs.Common.{◌≡◌, refl, ap, sym, ◌∙◌, Bool, true, false, ◌&&◌, ◌||◌, not, List, [], ◌∷◌, ◌++◌, length, append_assoc, true≢false}
 use Rattle.std.proofs.Common.{Ordering, Less, Equal, Greater}
 use Rattle.std.specs.Prelude.{ℤ, Option, Some, None, if◌then◌else◌, MatchOption, IsTrue, ◌↔◌}
 use Rattle.std.specs.List.{starts_with}
 use Rattle.std.specs.Ordering.{is_lt, ordering_reverse, int_cmp, int_eq}
 use Rattle.std.specs.Cmp.{int_cmp_total}
-use Rattle.std.specs.Cmp.Lexicographic.{slice_cmp, lists_total}
+use Rattle.std.specs.Cmp.Lexicographic.{slice_cmp, lists_total, pointwise}
 use Rattle.std.proofs.lemmas.Slice.Eq.{slice_eq-Decides}
 use Rattle.std.proofs.lemmas.Bool.Decides.{Decides-int_eq}
 use Rattle.std.proofs.lemmas.List.{append-nil}
 use Rattle.mm_label.specs.Label.{is_odd, is_empty, is_segment, IsAncestorOrSelf}
 use Rattle.mm_tree.specs.Trees.{Trees, none, node, Tree}
 use Rattle.mm_tree.specs.Numbering.{Labelled}
-use Rattle.mm_tree.specs.Forests.{segment_below, is_before, are_labelled, is_well_formed}
-use Rattle.mm_tree.specs.Edits.{has_label, has, found}
-use Rattle.mm_tree.specs.Ways.{leads_to, found_down}
+use Rattle.mm_tree.specs.Forests.{segment_below, is_before, rises, are_labelled, is_well_formed}
+use Rattle.mm_tree.specs.declared.forest.place.Place.{Place}
+use Rattle.mm_tree.specs.Edits.{has_label, has, found, Change, edit, Gap, gap_at, gap}
+use Rattle.mm_tree.specs.Ways.{leads_to, found_down, edit_down, gap_down}
 use Rattle.mm_tree.proofs.LabelledLaws.{front_splits, front_is, parts}
 use Rattle.mm_tree.proofs.NumberFacts.{both_parts}
 use Rattle.mm_tree.proofs.OrderLaws.{Under, rises_more}
@@ -69,7 +70,7 @@ one_segment (c ∷ cs) (d ∷ ds) m n p q e =
     by_test true (c ∷ cs) ds p q f = absurd cc
     by_test false cs ds p q f = f p q
 
-cancel : (y a b : List ℤ) → y ++ a ≡ y ++ b → a ≡ b
+pub cancel : (y a b : List ℤ) → y ++ a ≡ y ++ b → a ≡ b
 cancel [] a b e = e
 cancel (c ∷ y) a b e = cancel y a b cc
 
@@ -164,3 +165,48 @@ leads_is b label x h = by_tests b (starts_with int_eq x label) (λ k. front_is l
     by_tests true c f g = sym (f refl)
     by_tests false true f g = g refl
     by_tests false false f g = refl
+
+-- ---- the edit and the gap
+
+unchanged : (f : Change) (x : List ℤ) (ts : Trees Labelled) → has x ts ≡ false → edit f x ts ≡ ts
+unchanged f x none h = refl
+unchanged f x (node e inner rest) h =
+    by_tests (has_label x e) (has x inner) (has x rest) (f e inner rest) (edit f x inner) (edit f x rest) h (unchanged f x inner) (unchanged f x rest)
+  where
+    by_tests : (a b c : Bool) (F i r : Trees Labelled) → (a || (b || c)) ≡ false → (b ≡ false → i ≡ inner) → (c ≡ false → r ≡ rest) → (if a then F else node e i r) ≡ node e inner rest
+    by_tests true b c F i r h p q = absurd cc
+    by_tests false true c F i r h p q = absurd cc
+    by_tests false false c F i r h p q = λ j. node e (p refl j) (q h j)
+
+-- the way down by labels makes the same edit
+pub edit_is : (f : Change) (x y : List ℤ) (left : Option (List ℤ)) (ts : Trees Labelled) → are_labelled y left ts ≡ true → edit_down f x ts ≡ edit f x ts
+edit_is f x y left none l = refl
+edit_is f x y left (node e inner rest) l =
+    let p = parts y left e inner rest l in
+    by_tests (leads_to x e) (has_label x e) (f e inner rest) _ _ _ _ (leads_home x e) (edit_is f x e.label None inner p.below) (edit_is f x y (Some (segment_below y e.label)) rest p.after)
+    (λ k. unchanged f x rest (none_beside y left e inner rest x l k)) (λ k. unchanged f x inner (none_below e inner x p.below k))
+  where
+    by_tests : (a b : Bool) (F gi ei gr er : Trees Labelled) → (b ≡ true → a ≡ true) → gi ≡ ei → gr ≡ er → (a ≡ true → er ≡ rest) → (a ≡ false → ei ≡ inner)
+        → (if a then (if b then F else node e gi rest) else node e inner gr) ≡ (if b then F else node e ei er)
+    by_tests true true F gi ei gr er f p q r s = refl
+    by_tests true false F gi ei gr er f p q r s = λ j. node e (p j) (sym (r refl) j)
+    by_tests false true F gi ei gr er f p q r s = absurd (true≢false (sym (f refl)))
+    by_tests false false F gi ei gr er f p q r s = λ j. node e (sym (s refl) j) (q j)
+
+-- the way down by labels finds the same gap
+pub gap_is : (place : Place) (x y : List ℤ) (left l : Option (List ℤ)) (ts : Trees Labelled) → are_labelled y left ts ≡ true → gap_down place x y l ts ≡ (if has x ts then Some (gap place x y l ts) else None)
+gap_is place x y left l none k = refl
+gap_is place x y left l (node e inner rest) k =
+    let p = parts y left e inner rest k in
+    by_tests (leads_to x e) (has_label x e) (has x inner) (has x rest) (gap_at place y l e inner rest) _ _ _ _ (gap_is place x e.label None None inner p.below) (gap_is place x y (Some (segment_below y e.label)) (Some e.label) rest p.after)
+    (leads_home x e) (λ h. none_beside y left e inner rest x k h) (λ h. none_below e inner x p.below h)
+  where
+    by_tests : (a b c d : Bool) (G i r : Gap) (di dr : Option Gap) → di ≡ (if c then Some i else None) → dr ≡ (if d then Some r else None) → (b ≡ true → a ≡ true) → (a ≡ true → d ≡ false) → (a ≡ false → c ≡ false)
+        → (if a then (if b then Some G else di) else dr) ≡ (if (b || (c || d)) then Some (if b then G else (if c then i else r)) else None)
+    by_tests true true c d G i r di dr p q f g h = refl
+    by_tests true false true d G i r di dr p q f g h = p
+    by_tests true false false true G i r di dr p q f g h = absurd (true≢false (g refl))
+    by_tests true false false false G i r di dr p q f g h = p
+    by_tests false true c d G i r di dr p q f g h = absurd (true≢false (sym (f refl)))
+    by_tests false false true d G i r di dr p q f g h = absurd (true≢false (h refl))
+    by_tests false false false d G i r di dr p q f g h = q

@@ -7,7 +7,11 @@ pub mod Forests
 pub mod Order
 pub mod Edits
 pub mod Ways
+pub mod Untouched
+pub mod Hits
 pub mod Search
+pub mod Smallest
 pub mod Searching
 pub mod Found
 pub mod Examples
+pub mod EditExamples

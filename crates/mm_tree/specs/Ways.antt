@@ -1,10 +1,21 @@
 -- The way down by labels: a node lies on it where its label is a prefix of the target's.
-use Rattle.std.specs.Prelude.{ℤ, Bool, List, Option, Some, None, if◌then◌else◌}
+use Rattle.std.specs.Prelude.{ℕ, zero, suc, ◌+◌, ◌-◌, nat_lt, ℤ, Bool, true, false, ◌&&◌, IsTrue, ◌≡◌, ◌⊎◌, ⊤, IfSome, List, [], ◌∷◌, length, slice_get, Option, Some, None, option_map, if◌then◌else◌}
 use Rattle.std.specs.List.{starts_with}
 use Rattle.std.specs.Ordering.{int_eq}
-use Rattle.mm_tree.specs.Trees.{Trees, none, node, Tree}
-use Rattle.mm_tree.specs.Numbering.{Labelled}
-use Rattle.mm_tree.specs.Edits.{has_label}
+use Rattle.mm_label.specs.Label.{is_segment, last_odd, IsSegment, IsLastSegment}
+use Rattle.mm_label.specs.Between.{IsOrdered}
+use Rattle.mm_label.specs.Answers.{front_of}
+use Rattle.mm_tree.specs.declared.node.Node.{Node}
+use Rattle.mm_tree.specs.declared.node.Node.TheViews.{out-Node}
+use Rattle.mm_tree.specs.declared.forest.place.Place.{Place}
+use Rattle.mm_tree.specs.declared.forest.place.Place.TheVariants as place
+use Rattle.mm_tree.specs.declared.forest.edit.Edit.{Edit}
+use Rattle.mm_tree.specs.declared.forest.edit.Edit.TheVariants as edits
+use Rattle.mm_tree.specs.declared.forest.opening.Opening.{Opening}
+use Rattle.mm_tree.specs.Trees.{Trees, none, node, Tree, siblings}
+use Rattle.mm_tree.specs.Numbering.{Labelled, node_of}
+use Rattle.mm_tree.specs.Forests.{segment_below}
+use Rattle.mm_tree.specs.Edits.{has_label, Change, taken_out, put_instead, put, Gap, gap_at, left_segment, right_segment}
 
 abbrev pub leads_to : List ℤ → Labelled → Bool
 leads_to x e = starts_with int_eq x e.label
@@ -13,3 +24,64 @@ leads_to x e = starts_with int_eq x e.label
 abbrev pub found_down : List ℤ → Trees Labelled → Option (Tree Labelled)
 found_down x none = None
 found_down x (node e inner rest) = if leads_to x e then (if has_label x e then Some (e, inner) else found_down x inner) else found_down x rest
+
+-- the change at the node with the label
+abbrev pub edit_down : Change → List ℤ → Trees Labelled → Trees Labelled
+edit_down f x none = none
+edit_down f x (node e inner rest) = if leads_to x e then (if has_label x e then f e inner rest else node e (edit_down f x inner) rest) else node e inner (edit_down f x rest)
+
+-- the gap at the node with the label
+abbrev pub gap_down : Place → List ℤ → List ℤ → Option (List ℤ) → Trees Labelled → Option Gap
+gap_down place x y left none = None
+gap_down place x y left (node e inner rest) =
+    if leads_to x e then (if has_label x e then Some (gap_at place y left e inner rest) else gap_down place x e.label None inner) else gap_down place x y (Some e.label) rest
+
+-- what an edit of the program does at its node
+abbrev pub change_of : Edit → Change
+change_of (edits.Insert place n) = put place (node_of n)
+change_of edits.Delete = taken_out
+change_of (edits.Replace n) = put_instead (node_of n)
+
+-- the change at the i-th of the siblings
+abbrev pub at_index : Change → ℕ → List (Tree Labelled) → Trees Labelled
+at_index f i [] = none
+at_index f zero (t ∷ ts) = f t.0 t.1 (siblings ts)
+at_index f (suc i) (t ∷ ts) = node t.0 t.1 (at_index f i ts)
+
+-- the labels around an opening
+abbrev pub gap_of : Opening → Gap
+gap_of o = record { parent = front_of (option_map (λ p. p.now) o.parent); left = option_map (λ l. l.now) o.left; right = option_map (λ r. r.now) o.right }
+
+-- ---- the gap at the i-th of the siblings, which is n
+
+abbrev pub node_label : List Node → ℕ → Option (List ℤ)
+node_label ns i = option_map (λ n. (out-Node n).label) (slice_get ns i)
+
+abbrev pub label_before : List Node → ℕ → Option (List ℤ)
+label_before ns i = if nat_lt 0 i then node_label ns (i - 1) else None
+
+abbrev pub gap_here : Place → List ℤ → List Node → Node → ℕ → Gap
+gap_here place.Before y ns n i = record { parent = y; left = label_before ns i; right = Some (out-Node n).label }
+gap_here place.After y ns n i = record { parent = y; left = Some (out-Node n).label; right = node_label ns (i + 1) }
+gap_here place.First y ns n i = record { parent = (out-Node n).label; left = None; right = node_label (out-Node n).children 0 }
+gap_here place.Last y ns n i = record { parent = (out-Node n).label; left = label_before (out-Node n).children (length (out-Node n).children); right = None }
+
+-- ---- the neighbours of a gap
+
+-- the label is y and one segment
+abbrev pub is_below : List ℤ → List ℤ → Bool
+is_below y label = starts_with int_eq label y && is_segment (segment_below y label)
+
+-- the parent's label is nothing or a label, the neighbours' go on from it, and they rise
+pub record IsOpen (g : Gap) : Type 0 where
+  pub parent : (g.parent ≡ []) ⊎ (last_odd false g.parent ≡ true)
+  pub left : IfSome g.left (λ l. IsTrue (is_below g.parent l))
+  pub right : IfSome g.right (λ r. IsTrue (is_below g.parent r))
+  pub ordered : IsOrdered (left_segment g) (right_segment g)
+
+-- this is the last segment of the label, where there is one
+abbrev pub EndsIn : Option (List ℤ) → Option (List ℤ) → Type 0
+EndsIn None None = ⊤
+EndsIn None (Some s) = ⊥
+EndsIn (Some label) None = ⊥
+EndsIn (Some label) (Some s) = ((front : List ℤ) × IsLastSegment label front s) × IsSegment s

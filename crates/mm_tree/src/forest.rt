@@ -2,20 +2,27 @@ ghost use Rattle.std.specs.Prelude.{◌≡◌, ◌^◌, ◌-◌, ◌≤◌, [], 
 ghost use Rattle.std.specs.Option.{SomeIff};
 ghost use Rattle.mm_tree.specs.Trees.{levels, nodes, one, tree_of};
 ghost use Rattle.mm_tree.specs.Numbering.{forest_of, node_of, Labels};
-ghost use Rattle.mm_tree.specs.Edits.{found, has};
+ghost use Rattle.mm_tree.specs.Edits.{found, has, insert, delete, replace, inserted_label, subtree_size, insert_refusal, delete_refusal, replace_refusal};
 ghost use Rattle.mm_tree.specs.Validity.{is_element, is_valid_tree};
 ghost use Rattle.mm_tree.specs.Forests.{is_well_formed, last_segment, next_label, load, load_refusal, IsRefusal};
 ghost use Rattle.mm_label.specs.Label.{IsSegment};
 ghost use Rattle.mm_label.specs.Between.{LiesBetween};
 ghost use Rattle.mm_label.specs.Answers.{RefusesSegment};
 
+mod changes;
+mod edit;
 mod find;
+mod label;
+mod opening;
 mod place;
+mod placed;
+mod size;
 
+use self::changes::{delete_in, insert_in, replace_in};
 use self::find::find_in;
-use crate::measure::nodes_within;
+use self::placed::{is_text, node_count};
 use crate::node::{Node, number};
-use crate::plain::{Kind, Plain};
+use crate::plain::Plain;
 use crate::refusal::{Refusal, TreeError};
 use mm_label::{Label, LabelError, between, child};
 use mm_list::Items;
@@ -53,23 +60,6 @@ impl Model for Forest {
     ghost use Rattle.mm_tree.specs.Forests.{is_well_formed};
 
     ghost invariant = { λ f. IsTrue (is_well_formed (forest_of f.trees)) };
-}
-
-fn is_text(kind: &Kind) -> bool
-    ensures { result ≡ not (is_element kind.now) }
-{
-    match kind {
-        Kind::Element { .. } => false,
-        Kind::Words { .. } => true,
-    }
-}
-
-/// How many nodes the tree has, as far as the number fits. None where it has more than 200 levels.
-fn node_count(tree: &Plain) -> Option<u64>
-    ensures { SomeIff result (levels (one (tree_of tree.now)) ≤ 200) (min (nodes (one (tree_of tree.now))) (2 ^ 64 - 1)) }
-{
-    let below = nodes_within(tree.children.as_slice(), 199)?;
-    Some(below.saturating_add(1))
 }
 
 /// The segment of the tree that comes next.
@@ -114,7 +104,7 @@ fn load_behind(trees: &mut Items<Node>, alloc: Global, tree: Plain) -> Result<Do
     if is_text(&tree.kind) {
         return Err(TreeError::Refused(Refusal::Top));
     }
-    let Some(nodes) = node_count(&tree) else {
+    let Some(nodes) = node_count(&tree, 200) else {
         return Err(TreeError::Refused(Refusal::Deep));
     };
     let label = next_label(alloc, trees.as_slice())?;
@@ -166,6 +156,54 @@ impl Forest {
         ensures err { OnErr result (self.new ≡ self.old) }
     {
         load_behind(&mut self.trees, alloc, tree)
+    }
+
+    /// Puts the tree, with new labels, directly before or after the node with the label, or as its
+    /// first or last child. The root's label is its parent's and a segment between those of its
+    /// neighbours. An `Err` changes nothing.
+    pub fn insert(
+        &mut self,
+        alloc: Global,
+        place: Place,
+        target: &Label,
+        tree: Plain,
+    ) -> Result<Done, TreeError>
+        requires { IsTrue (is_valid_tree (tree_of tree)) }
+        ensures inserted { OnOk result (forest_of self.new ≡ insert place target.now (tree_of tree) (forest_of self.old)) }
+        ensures label { IfOk result (λ done. done.label ≡ inserted_label place target.now (forest_of self.old)) }
+        ensures nodes { IfOk result (λ done. done.nodes ≡ nodes (one (tree_of tree))) }
+        ensures accepted { OnOk result (insert_refusal place target.now (tree_of tree) (forest_of self.old) ≡ None) }
+        ensures refused { IfErr result (λ e. IsRefusal e (insert_refusal place target.now (tree_of tree) (forest_of self.old))) }
+        ensures err { OnErr result (self.new ≡ self.old) }
+    {
+        insert_in(&mut self.trees, alloc, place, target, tree)
+    }
+
+    /// Takes the node with the label out, and all below it; says how many nodes these were, as far as
+    /// the number fits. An `Err` changes nothing.
+    pub fn delete(&mut self, alloc: Global, target: &Label) -> Result<Done, TreeError>
+        ensures deleted { OnOk result (forest_of self.new ≡ delete target.now (forest_of self.old)) }
+        ensures label { IfOk result (λ done. done.label ≡ target.now) }
+        ensures nodes { IfOk result (λ done. done.nodes ≡ min (subtree_size target.now (forest_of self.old)) (2 ^ 64 - 1)) }
+        ensures accepted { OnOk result (delete_refusal target.now (forest_of self.old) ≡ None) }
+        ensures refused { IfErr result (λ e. IsRefusal e (delete_refusal target.now (forest_of self.old))) }
+        ensures err { OnErr result (self.new ≡ self.old) }
+    {
+        delete_in(&mut self.trees, alloc, target)
+    }
+
+    /// Puts the tree in place of the node with the label and of all below it. Its root gets that
+    /// label, and the nodes below new ones. An `Err` changes nothing.
+    pub fn replace(&mut self, alloc: Global, target: &Label, tree: Plain) -> Result<Done, TreeError>
+        requires { IsTrue (is_valid_tree (tree_of tree)) }
+        ensures replaced { OnOk result (forest_of self.new ≡ replace target.now (tree_of tree) (forest_of self.old)) }
+        ensures label { IfOk result (λ done. done.label ≡ target.now) }
+        ensures nodes { IfOk result (λ done. done.nodes ≡ nodes (one (tree_of tree))) }
+        ensures accepted { OnOk result (replace_refusal target.now (tree_of tree) (forest_of self.old) ≡ None) }
+        ensures refused { IfErr result (λ e. IsRefusal e (replace_refusal target.now (tree_of tree) (forest_of self.old))) }
+        ensures err { OnErr result (self.new ≡ self.old) }
+    {
+        replace_in(&mut self.trees, alloc, target, tree)
     }
 }
 

@@ -5,6 +5,7 @@
 #![tactic(auto)]
 
 mod forest;
+mod hit;
 pub mod laws;
 mod measure;
 mod node;
@@ -15,6 +16,7 @@ mod search;
 mod text;
 
 pub use forest::{Done, Forest, Place};
+pub use hit::{Hit, Hits};
 pub use node::{Node, Nodes};
 pub use own::own_words;
 pub use plain::{Attribute, Attributes, Kind, Plain, Plains};
