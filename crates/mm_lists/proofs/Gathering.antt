@@ -1,5 +1,5 @@
 -- Lists in memory hold the labels that were put into them.
-use Rattle.std.proofs.Common.{◌≡◌, ℕ, Bool, true, false, ◌||◌, cond, List, [], ◌∷◌, ◌++◌, append_assoc, refl, ap, sym, subst, ◌∙◌, Option, Some, None, drop, length, arith, ◌<◌, ◌≤◌, ◌+◌, get_or, Less}
+use Rattle.std.proofs.Common.{◌≡◌, ℕ, Bool, true, false, ◌||◌, cond, List, [], ◌∷◌, ◌++◌, refl, ap, sym, subst, ◌∙◌, Option, Some, None, length, arith, ◌+◌, Less}
 use Rattle.std.specs.Prelude.{unwrap_or, bytes_eq, ◌↔◌}
 use Rattle.std.specs.BTreeMap.{BTreeMap, get}
 use Rattle.std.specs.List.{list_any, Contains, AllByRecursion}
@@ -8,17 +8,11 @@ use Rattle.std.specs.Ordering.{nat_cmp, is_eq}
 use Rattle.std.specs.Cmp.{both_ways}
 use Rattle.std.specs.Cmp.Lexicographic.{slice_cmp}
 use Rattle.std.proofs.lemmas.Cmp.{nat_list_cmp_total, nat_list_eq_equiv, tied_itself}
-use Rattle.std.proofs.lemmas.List.{append-nil, drop_more, drop_all}
+use Rattle.std.proofs.lemmas.List.{append-nil}
 use Rattle.std.proofs.lemmas.Map.Keys.{sorted_head, sorted_tail}
 use Rattle.std.proofs.lemmas.Map.Text.{is_eq-slice_cmp}
 use Rattle.std.proofs.lemmas.Map.Views.{Contains-from_any, list_any-from_Contains}
 use Rattle.std.proofs.lemmas.Slice.Eq.{bytes_eq-Decides}
-use Rattle.mm_tree.specs.declared.node.Node.{Node}
-use Rattle.mm_tree.specs.declared.node.Node.TheFolds.{fold_out-Node}
-use Rattle.mm_tree.specs.declared.node.Node.TheViews.{out-Node}
-use Rattle.mm_tree.specs.Trees.{Tree, node}
-use Rattle.mm_tree.specs.Numbering.{Labelled, node_of, node_step, forest_of}
-use Rattle.mm_tree.specs.Search.{list_of, own, worded}
 use Rattle.mm_lists.specs.Fronts.{Label, Word}
 use Rattle.mm_lists.specs.Memory.{list_in}
 
@@ -94,11 +88,6 @@ put_first before after x rest label s f w all e = by (bytes_eq w x) refl
         ap (λ (z : List Label). z ++ cond (list_any (bytes_eq w) rest) (label ∷ []) []) (f w ∙ (ap (λ (t : Bool). list_in before w ++ cond t (label ∷ []) []) h ∙ append-nil (list_in before w)))
         ∙ (sym (ap (λ (t : Bool). list_in before w ++ cond (t || list_any (bytes_eq w) rest) (label ∷ []) []) h) ∙ e)
 
-pub nothing_left : (lists : BTreeMap Word (List Label)) (left : List Word) (n : ℕ) (label : Label) → n ≡ length left → n ≡ 0 → (w : Word) (all : List Label)
-    → list_in lists w ++ cond (list_any (bytes_eq w) left) (label ∷ []) [] ≡ all → list_in lists w ≡ all
-nothing_left lists [] n label p q w all e = sym (append-nil (list_in lists w)) ∙ e
-nothing_left lists (x ∷ left) n label p q w all e = absurd (omega arith)
-
 -- the same words: the same test
 pub same_any : (these list : List Word) → ((w : Word) → Contains list w ↔ Contains these w) → (w : Word) → list_any (bytes_eq w) list ≡ list_any (bytes_eq w) these
 same_any these list f w = both_ways (list_any (bytes_eq w) list) (list_any (bytes_eq w) these)
@@ -111,38 +100,7 @@ same_any these list f w = both_ways (list_any (bytes_eq w) list) (list_any (byte
     there : (ks : List Word) → Contains ks w → list_any (bytes_eq w) ks ≡ true
     there ks c = list_any-from_Contains {eq = bytes_eq} nat_list_eq_equiv w ks c
 
--- ---- nodes, each with all below it, one after the other
-
-node_of_out : (n : Node) → node_of n ≡ (record { label = (out-Node n).label; kind = (out-Node n).kind }, forest_of (out-Node n).children)
-node_of_out = fold_out-Node (Tree Labelled) node_step
-
-list_first : (w : Word) (n : Node) (rest : List Node) → list_of w (worded (forest_of (n ∷ rest)))
-    ≡ cond (list_any (bytes_eq w) (own (out-Node n).kind)) ((out-Node n).label ∷ []) [] ++ (list_of w (worded (forest_of (out-Node n).children)) ++ list_of w (worded (forest_of rest)))
-list_first w n rest = ap (λ (t : Tree Labelled). list_of w (worded (node t.0 t.1 (forest_of rest)))) (node_of_out n)
-
-regroup : (a b c d : List Label) → ((a ++ b) ++ c) ++ d ≡ a ++ (b ++ (c ++ d))
-regroup a b c d = simp append_assoc
-
-pub gather_first : (nodes : List Node) (i : ℕ) (n : Node) (before own_put after : BTreeMap Word (List Label)) → i < length nodes → n ≡ get_or nodes i n
-    → ((w : Word) → list_in own_put w ≡ list_in before w ++ cond (list_any (bytes_eq w) (own (out-Node n).kind)) ((out-Node n).label ∷ []) [])
-    → ((w : Word) → list_in after w ≡ list_in own_put w ++ list_of w (worded (forest_of (out-Node n).children)))
-    → (w : Word) (all : List Label) → list_in before w ++ list_of w (worded (forest_of (drop i nodes))) ≡ all
-    → list_in after w ++ list_of w (worded (forest_of (drop (i + 1) nodes))) ≡ all
-gather_first nodes i n before own_put after h e f g w all k =
-    let d : drop i nodes ≡ n ∷ drop (i + 1) nodes = drop_more nodes i n h ∙ ap (λ (m : Node). m ∷ drop (i + 1) nodes) (sym e) in
-    let rest = list_of w (worded (forest_of (drop (i + 1) nodes))) in
-    let own_part = cond (list_any (bytes_eq w) (own (out-Node n).kind)) ((out-Node n).label ∷ []) [] in
-    ap (λ (z : List Label). z ++ rest) (g w ∙ ap (λ (z : List Label). z ++ list_of w (worded (forest_of (out-Node n).children))) (f w))
-    ∙ (regroup (list_in before w) own_part (list_of w (worded (forest_of (out-Node n).children))) rest
-    ∙ (ap (λ (z : List Label). list_in before w ++ z) (sym (ap (λ (ns : List Node). list_of w (worded (forest_of ns))) d ∙ list_first w n (drop (i + 1) nodes))) ∙ k))
-
-pub all_gathered : (lists : BTreeMap Word (List Label)) (nodes : List Node) (i : ℕ) → length nodes ≤ i → (w : Word) (all : List Label)
-    → list_in lists w ++ list_of w (worded (forest_of (drop i nodes))) ≡ all → list_in lists w ≡ all
-all_gathered lists nodes i h w all e =
-    let d : drop i nodes ≡ [] = drop_all i nodes h in
-    sym (append-nil (list_in lists w)) ∙ (sym (ap (λ (ns : List Node). list_in lists w ++ list_of w (worded (forest_of ns))) d) ∙ e)
-
--- after all words
+-- one word fewer is left
 pub fewer_left : (left rest : List Word) (x : Word) (n m : ℕ) → n ≡ length left → left ≡ x ∷ rest → m + 1 ≡ n → m ≡ length rest
 fewer_left left rest x n m e f g = let t : length left ≡ length (x ∷ rest) = ap length f in omega arith
 

@@ -50,10 +50,6 @@ least_is qs forest at size h s =
     (λ i q. let w : i < length qs = omega arith in subst (λ (l : List Label). size ≤ length l) (sym (get_lists qs i forest w)) (s.1 i w)) in
     omega arith
 
-cost_by : (b : Bool) (k n : ℕ) → k ≤ cond b k (k + n)
-cost_by true k n = omega arith
-cost_by false k n = omega arith
-
 cost_from : (b : Bool) (k m s : ℕ) → k ≤ cond b k (k + m + s)
 cost_from true k m s = omega arith
 cost_from false k m s = omega arith

@@ -269,7 +269,3 @@ stands_taken ls ms i done held v c at more then o a s e k p q n =
     subst (λ (d : List Label). Stands ls ms (i + 1) d then o) (sym p)
     (subst (λ (h : Label). Stands ls ms (i + 1) (taken_done done held c) h o) (sym q)
     (stands_some ls ms i done held v c o a (subst (Stands ls ms i done held) e s) k n))
-
-pub take_first : (done : List Label) (c : Label) → (done ≡ taken_done done [] c) × (c ≡ taken_held [] c)
-take_first done [] = (refl, refl)
-take_first done (x ∷ c) = (refl, refl)

@@ -1,6 +1,6 @@
 -- Why an edit is refused, and that the forest stays well formed.
-use Rattle.std.proofs.Common.{◌≡◌, refl, ap, sym, subst, ◌∙◌, ℕ, ◌+◌, ◌-◌, ◌≤◌, ◌^◌, min, arith, Bool, true, false, ◌&&◌, ◌||◌, not, List, [], ◌∷◌, ◌++◌, true≢false, inl}
-use Rattle.std.specs.Prelude.{ℤ, Option, Some, None, if◌then◌else◌, nat_le, IfSome, Result, Err, IsTrue}
+use Rattle.std.proofs.Common.{◌≡◌, refl, ap, sym, ◌∙◌, ℕ, ◌+◌, ◌-◌, ◌≤◌, ◌^◌, min, arith, Bool, true, false, ◌&&◌, ◌||◌, not, List, [], inl}
+use Rattle.std.specs.Prelude.{ℤ, Option, Some, None, if◌then◌else◌, nat_le, IfSome, Err}
 use Rattle.std.specs.Ordering.{is_lt}
 use Rattle.std.proofs.lemmas.Bool.{leb-true, le-leb}
 use Rattle.mm_label.specs.Label.{is_segment, level, IsBefore}
@@ -16,15 +16,15 @@ use Rattle.mm_tree.specs.declared.refusal.Refusal.TheVariants.{Absent, Leaf, Roo
 use Rattle.mm_tree.specs.Trees.{Trees, none, node, Tree, one, every, nodes, levels}
 use Rattle.mm_tree.specs.Validity.{is_element, is_valid_kind, is_valid_node, is_valid_tree}
 use Rattle.mm_tree.specs.Numbering.{Labelled, node_of, forest_of, number, fits, has_room, Labels, Numbers}
-use Rattle.mm_tree.specs.Forests.{segment_below, are_labelled, has_valid_kind, are_elements, is_well_formed, IsRefusal}
+use Rattle.mm_tree.specs.Forests.{are_labelled, has_valid_kind, are_elements, is_well_formed, IsRefusal}
 use Rattle.mm_tree.specs.Edits.{has_label, has, found, is_text, size_of, subtree_size, Change, taken_out, put_instead, put, edit, Gap, gap_at, gap, left_segment, right_segment, label_in, inserted_label, insert, delete, replace, is_inside, room_refusal, placed_refusal, insert_refusal, delete_refusal, replace_refusal}
 use Rattle.mm_tree.specs.Ways.{leads_to, found_down, edit_down, gap_down, IsOpen}
 use Rattle.mm_tree.proofs.NumberFacts.{both_true, both_parts}
 use Rattle.mm_tree.proofs.NumberForm.{number_form, valid_numbered}
 use Rattle.mm_tree.proofs.LabelledLaws.{parts}
 use Rattle.mm_tree.proofs.LoadFacts.{no_fit, no_fit_either, all_room, rises_is}
-use Rattle.mm_tree.proofs.WayLaws.{label_is, within, not_found, is_found, present, found_is, edit_is, gap_is, labels_of}
-use Rattle.mm_tree.proofs.PlaceFacts.{labelled, node_of_out}
+use Rattle.mm_tree.proofs.WayLaws.{label_is, within, is_found, present, found_is, edit_is, gap_is, labels_of}
+use Rattle.mm_tree.proofs.PlaceFacts.{node_of_out}
 use Rattle.mm_tree.proofs.FormLaws.{Suits, falls, put_keeps, delete_keeps, replace_keeps}
 use Rattle.mm_tree.proofs.EveryLaws.{Lenient, every_put, every_delete, every_replace}
 use Rattle.mm_tree.proofs.LevelLaws.{is_shallow, level_append, one_level, child_level, shallow, shallow_only, number_shallow}

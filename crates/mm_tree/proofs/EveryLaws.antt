@@ -1,6 +1,6 @@
 -- Edits keep what is true of each node.
-use Rattle.std.proofs.Common.{◌≡◌, refl, ap, sym, ◌∙◌, Bool, true, false, ◌&&◌, List}
-use Rattle.std.specs.Prelude.{ℤ, Option, Some, if◌then◌else◌}
+use Rattle.std.proofs.Common.{◌≡◌, refl, ap, ◌∙◌, Bool, true, false, ◌&&◌, List}
+use Rattle.std.specs.Prelude.{ℤ, Some, if◌then◌else◌}
 use Rattle.mm_tree.specs.declared.forest.place.Place.{Place}
 use Rattle.mm_tree.specs.declared.forest.place.Place.TheVariants.{Before, After, First, Last}
 use Rattle.mm_tree.specs.Trees.{Trees, none, node, Tree, one, has_some, every}

@@ -7,7 +7,7 @@ use Rattle.mm_tree.specs.declared.node.Node.{Node}
 use Rattle.mm_tree.specs.declared.node.Node.TheViews.{out-Node}
 use Rattle.mm_tree.specs.declared.forest.place.Place.{Place}
 use Rattle.mm_tree.specs.declared.forest.place.Place.TheVariants.{Before, After, First, Last}
-use Rattle.mm_tree.specs.Trees.{Trees, none, node, Tree}
+use Rattle.mm_tree.specs.Trees.{node, Tree}
 use Rattle.mm_tree.specs.Numbering.{Labelled, node_of, forest_of}
 use Rattle.mm_tree.specs.Edits.{Gap, first_label, last_label, gap_at}
 use Rattle.mm_tree.specs.Ways.{leads_to, gap_down, node_label, label_before, gap_here}

@@ -1,9 +1,9 @@
 -- The neighbours of a gap, and their segments.
-use Rattle.std.proofs.Common.{◌≡◌, refl, ap, sym, subst, ◌∙◌, Bool, true, false, cond, List, [], ◌∷◌, ◌++◌, ◌⊎◌, inl, inr, append_assoc}
-use Rattle.std.specs.Prelude.{ℤ, Option, Some, None, option_map, IfSome, IsTrue, if◌then◌else◌, Err}
+use Rattle.std.proofs.Common.{◌≡◌, refl, ap, sym, subst, ◌∙◌, Bool, true, false, cond, List, [], ◌∷◌, ◌++◌, ◌⊎◌, inl, inr}
+use Rattle.std.specs.Prelude.{ℤ, Option, Some, None, IfSome, IsTrue, if◌then◌else◌, Err}
 use Rattle.std.specs.List.{starts_with}
 use Rattle.std.specs.Ordering.{int_eq}
-use Rattle.mm_label.specs.Label.{is_odd, is_empty, is_segment, is_in_range, all_in_range, last_odd, IsLastSegment, IsBefore}
+use Rattle.mm_label.specs.Label.{is_odd, is_empty, is_segment, is_in_range, all_in_range, last_odd}
 use Rattle.mm_label.specs.Answers.{RefusesSegment}
 use Rattle.mm_label.specs.declared.LabelError.{LabelError}
 use Rattle.mm_label.specs.declared.LabelError.TheVariants as label_error
@@ -14,7 +14,7 @@ use Rattle.mm_tree.specs.declared.forest.place.Place.TheVariants.{Before, After,
 use Rattle.mm_tree.specs.Trees.{Trees, none, node}
 use Rattle.mm_tree.specs.Numbering.{Labelled, Labels}
 use Rattle.mm_tree.specs.Forests.{segment_below, rises, are_labelled}
-use Rattle.mm_tree.specs.Edits.{has_label, Gap, first_label, last_label, gap_at, left_segment, right_segment}
+use Rattle.mm_tree.specs.Edits.{has_label, Gap, first_label, last_label, gap_at}
 use Rattle.mm_tree.specs.Ways.{leads_to, gap_down, is_below, IsOpen, EndsIn}
 use Rattle.mm_tree.proofs.NumberFacts.{both_true, both_parts}
 use Rattle.mm_tree.proofs.LabelledLaws.{front_splits, Parts, parts}

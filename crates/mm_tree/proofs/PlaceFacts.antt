@@ -1,18 +1,16 @@
 -- Walks over a list of nodes, and the definitions over trees.
-use Rattle.std.proofs.Common.{◌≡◌, refl, ap, sym, ◌∙◌, ℕ, zero, suc, ◌+◌, ◌-◌, ◌<◌, ◌≤◌, Bool, true, false, not, List, [], ◌∷◌, ◌++◌, length, cond, arith}
-use Rattle.std.specs.Prelude.{ℤ, Option, Some, None, if◌then◌else◌, slice_get, slice_set, insert, remove, map, option_map, Result, Ok, Err, OnOk, OnErr}
-use Rattle.std.proofs.lemmas.Bool.{lt-ltb}
+use Rattle.std.proofs.Common.{◌≡◌, refl, ap, sym, ◌∙◌, ℕ, zero, suc, ◌+◌, ◌<◌, ◌≤◌, Bool, true, false, not, List, [], ◌∷◌, ◌++◌, length, cond, arith}
+use Rattle.std.specs.Prelude.{ℤ, Option, Some, None, if◌then◌else◌, slice_get, slice_set, insert, remove, map, Result, Ok, Err, OnOk, OnErr}
 use Rattle.std.specs.List.{prefix_len}
 use Rattle.mm_tree.specs.declared.node.Node.{Node}
 use Rattle.mm_tree.specs.declared.node.Node.TheViews.{roll-Node, out-Node, roll-out-Node}
 use Rattle.mm_tree.specs.declared.node.Node.TheFolds.{fold-roll-Node, fold_out-Node}
-use Rattle.mm_tree.specs.declared.forest.place.Place.{Place}
 use Rattle.mm_tree.specs.declared.forest.place.Place.TheVariants.{Before, After, First, Last}
-use Rattle.mm_tree.specs.Trees.{Trees, none, node, Tree, one, siblings}
+use Rattle.mm_tree.specs.Trees.{Trees, node, Tree, one}
 use Rattle.mm_tree.specs.Numbering.{Labelled, node_of, node_step, forest_of}
 use Rattle.mm_tree.specs.Forests.{and_then}
-use Rattle.mm_tree.specs.Edits.{has_label, Change, taken_out, put_instead, put, Gap, first_label, last_label, gap_at}
-use Rattle.mm_tree.specs.Ways.{leads_to, found_down, edit_down, gap_down, at_index, node_label, label_before, gap_here}
+use Rattle.mm_tree.specs.Edits.{has_label, Change, taken_out, put_instead, put}
+use Rattle.mm_tree.specs.Ways.{leads_to, found_down, edit_down, at_index}
 
 abbrev pub labelled : Node → Labelled
 labelled n = record { label = (out-Node n).label; kind = (out-Node n).kind }

@@ -1,10 +1,13 @@
 -- The answers of a search are the smallest full nodes.
 use Rattle.std.proofs.Common.{◌≡◌, refl, ap, ap₂, sym, ◌∙◌, subst, ℕ, zero, suc, ◌<◌, ◌⊎◌, inl, inr, Bool, true, false, cond, ◌||◌, List, [], ◌∷◌, ◌++◌, length, append_assoc, append-nil, arith, ◌↔◌, Contains, AllPairs, slice_index_or}
 use Rattle.std.specs.Prelude.{ℤ, Option, Some, None}
+use Rattle.std.proofs.lemmas.Slice.Eq.{slice_eq-Decides}
+use Rattle.std.proofs.lemmas.Bool.Decides.{Decides-int_eq}
 use Rattle.mm_label.specs.Label.{is_segment, IsBefore, IsAncestorOrSelf}
 use Rattle.mm_tree.specs.Trees.{Trees, none, node}
 use Rattle.mm_tree.specs.Numbering.{Labelled}
 use Rattle.mm_tree.specs.Forests.{segment_below, is_before, are_labelled, is_well_formed}
+use Rattle.mm_tree.specs.Edits as edits
 use Rattle.mm_tree.specs.Search.{Worded, own, worded, is_full, some_full, slca}
 use Rattle.mm_tree.specs.Smallest.{full_nodes, IsSmallest, HasAnswer}
 use Rattle.mm_tree.proofs.LabelledLaws.{front_splits, Parts, parts}
@@ -127,6 +130,9 @@ some_answer query (node e inner rest) h = by_tests (is_full query e inner) (some
     by_tests false c f g k i r = let a = r k in (a.0, in_right a.0 (part query e inner) (slca query rest) a.1)
 
 -- ---- labels
+
+is_label : (x : List ℤ) (e : Labelled) → e.label ≡ x → edits.has_label x e ≡ true
+is_label x e = (slice_eq-Decides Decides-int_eq e.label x (edits.has_label x e) refl).1
 
 here_under : (y : List ℤ) (left : Option (List ℤ)) (e : Labelled) (inner rest : Trees Labelled) → Parts y left e inner rest → Under y left e.label
 here_under y left e inner rest p = record {
@@ -300,6 +306,19 @@ rising query y left (node e inner rest) l =
     (each_from (λ x. Each (IsBefore x) (slca query R)) (part query (seen e) I) (λ x w. each_from (IsBefore x) (slca query R) (λ z v. before x z w v)))
 
 -- ---- the laws
+
+full_has : (query : List (List ℕ)) (ts : Trees Labelled) (x : List ℤ) → Within x (full_nodes query (worded ts)) → edits.has x ts ≡ true
+full_has query none x w = absurd w
+full_has query (node e inner rest) x w = elim (full_cases query (seen e) (worded inner) (worded rest) x w) [
+  | inl h ↦ ap (λ b. b || (edits.has x inner || edits.has x rest)) (is_label x e (sym h.1))
+  | inr v ↦ elim v [
+    | inl i ↦ ap (λ b. edits.has_label x e || (b || edits.has x rest)) (full_has query inner x i) ∙ or_true (edits.has_label x e)
+    | inr r ↦ ap (λ b. edits.has_label x e || (edits.has x inner || b)) (full_has query rest x r) ∙ ap (λ b. edits.has_label x e || b) (or_true (edits.has x inner)) ∙ or_true (edits.has_label x e)
+  ]
+]
+
+pub answers_are_nodes : (query : List (List ℕ)) (forest : Trees Labelled) (x : List ℤ) → Contains (slca query (worded forest)) x → edits.has x forest ≡ true
+answers_are_nodes query forest x c = full_has query forest x (answer_full query (worded forest) x (within_from _ x c))
 
 pub full_nodes_have_answers : (query : List (List ℕ)) (forest : Trees Labelled) → is_well_formed forest ≡ true → (x : List ℤ) → Contains (full_nodes query (worded forest)) x → HasAnswer query (worded forest) x
 full_nodes_have_answers query forest g x c =

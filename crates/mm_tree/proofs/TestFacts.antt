@@ -1,6 +1,6 @@
 -- The trees that the tests build are valid.
 use Rattle.std.proofs.Common.{◌≡◌, refl, ap, sym, subst, ◌∙◌, ℕ, ◌+◌, ◌<◌, ◌≤◌, ◌^◌, true, ◌&&◌, List, [], ◌∷◌, ◌++◌, arith}
-use Rattle.std.specs.Prelude.{Result, Ok, Err, IfOk}
+use Rattle.std.specs.Prelude.{Result, Ok, Err, IfOk, codes}
 use Rattle.std.specs.Char.{encode_utf8}
 use Rattle.std.specs.Str.{chars, is_utf8}
 use Rattle.std.proofs.lemmas.Bool.{lt-ltb}
@@ -63,3 +63,7 @@ behind_items xs cs t n m e h k = subst (λ (zs : List Plain). Take (trees_of zs)
 pub if_ok_so : {T E : Type 0} (r : Result T E) (P Q : T → Type 0) → ((t : T) → P t → Q t) → IfOk r P → IfOk r Q
 if_ok_so (Ok t) P Q f h = f t h
 if_ok_so (Err e) P Q f h = tt
+
+pub again_valid : is_valid_tree (Words (codes "again"), none) ≡ true
+unfolding is_valid_kind is_utf8 chars encode_utf8
+again_valid = refl

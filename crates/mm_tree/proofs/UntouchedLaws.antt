@@ -6,7 +6,7 @@ use Rattle.mm_tree.specs.declared.forest.place.Place.{Place}
 use Rattle.mm_tree.specs.declared.forest.place.Place.TheVariants.{Before, After, First, Last}
 use Rattle.mm_tree.specs.Trees.{Trees, none, node, Tree, one, preorder}
 use Rattle.mm_tree.specs.Numbering.{Labelled, number}
-use Rattle.mm_tree.specs.Forests.{are_labelled, is_well_formed, and_then}
+use Rattle.mm_tree.specs.Forests.{is_well_formed, and_then}
 use Rattle.mm_tree.specs.Edits.{has_label, has, found, Change, taken_out, put_instead, put, edit, inserted_label}
 use Rattle.mm_tree.specs.Ways.{leads_to, found_down, edit_down}
 use Rattle.mm_tree.specs.Untouched.{OneRun, InsertLeaves, DeleteLeaves, ReplaceLeaves}

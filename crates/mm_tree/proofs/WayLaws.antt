@@ -1,18 +1,18 @@
 -- In a well-formed forest the way down by labels misses nothing.
-use Rattle.std.proofs.Common.{◌≡◌, refl, ap, sym, ◌∙◌, Bool, true, false, ◌&&◌, ◌||◌, not, List, [], ◌∷◌, ◌++◌, length, append_assoc, true≢false}
+use Rattle.std.proofs.Common.{◌≡◌, refl, ap, sym, ◌∙◌, Bool, true, false, ◌||◌, not, List, [], ◌∷◌, ◌++◌, append_assoc, true≢false}
 use Rattle.std.proofs.Common.{Ordering, Less, Equal, Greater}
 use Rattle.std.specs.Prelude.{ℤ, Option, Some, None, if◌then◌else◌, MatchOption, IsTrue, ◌↔◌}
 use Rattle.std.specs.List.{starts_with}
 use Rattle.std.specs.Ordering.{is_lt, ordering_reverse, int_cmp, int_eq}
 use Rattle.std.specs.Cmp.{int_cmp_total}
-use Rattle.std.specs.Cmp.Lexicographic.{slice_cmp, lists_total, pointwise}
+use Rattle.std.specs.Cmp.Lexicographic.{slice_cmp, lists_total}
 use Rattle.std.proofs.lemmas.Slice.Eq.{slice_eq-Decides}
 use Rattle.std.proofs.lemmas.Bool.Decides.{Decides-int_eq}
 use Rattle.std.proofs.lemmas.List.{append-nil}
 use Rattle.mm_label.specs.Label.{is_odd, is_empty, is_segment, IsAncestorOrSelf}
 use Rattle.mm_tree.specs.Trees.{Trees, none, node, Tree}
 use Rattle.mm_tree.specs.Numbering.{Labelled}
-use Rattle.mm_tree.specs.Forests.{segment_below, is_before, rises, are_labelled, is_well_formed}
+use Rattle.mm_tree.specs.Forests.{segment_below, is_before, are_labelled, is_well_formed}
 use Rattle.mm_tree.specs.declared.forest.place.Place.{Place}
 use Rattle.mm_tree.specs.Edits.{has_label, has, found, Change, edit, Gap, gap_at, gap}
 use Rattle.mm_tree.specs.Ways.{leads_to, found_down, edit_down, gap_down}

@@ -1,13 +1,13 @@
 -- Worked examples of edits: a bibliography is changed.
-use Rattle.std.specs.Prelude.{ℕ, ℤ, pos, negsuc, List, [], ◌∷◌, ◌≡◌, true, false, refl, codes, Option, Some, None}
+use Rattle.std.specs.Prelude.{ℕ, ℤ, pos, negsuc, List, [], ◌∷◌, ◌≡◌, refl, codes, Some, None}
 use Rattle.mm_tree.specs.declared.plain.Kind.{Kind}
 use Rattle.mm_tree.specs.declared.plain.Kind.TheVariants.{Element, Words}
 use Rattle.mm_tree.specs.declared.forest.place.Place.TheVariants.{Before, After, First, Last}
 use Rattle.mm_tree.specs.declared.refusal.Refusal.TheVariants.{Absent, Leaf, Top}
-use Rattle.mm_tree.specs.Trees.{Trees, none, node, Tree, nodes}
+use Rattle.mm_tree.specs.Trees.{Trees, none, Tree, nodes}
 use Rattle.mm_tree.specs.Numbering.{Labelled}
 use Rattle.mm_tree.specs.Forests.{numbered_behind}
-use Rattle.mm_tree.specs.Edits.{has, subtree_size, insert, delete, replace, inserted_label, insert_refusal, delete_refusal, replace_refusal}
+use Rattle.mm_tree.specs.Edits.{subtree_size, insert, delete, replace, inserted_label, insert_refusal, delete_refusal, replace_refusal}
 use Rattle.mm_tree.specs.Order.{labels}
 use Rattle.mm_tree.specs.Examples.{bibliography}
 

@@ -5,6 +5,7 @@ use Rattle.mm_label.specs.Label.{IsAncestorOrSelf, IsBefore}
 use Rattle.mm_tree.specs.Trees.{Trees, none, node}
 use Rattle.mm_tree.specs.Numbering.{Labelled}
 use Rattle.mm_tree.specs.Forests.{is_well_formed}
+use Rattle.mm_tree.specs.Edits as edits
 use Rattle.mm_tree.specs.Search.{Worded, worded, is_full, slca}
 
 -- the labels of the full nodes, in document order
@@ -22,6 +23,10 @@ pub record HasAnswer (query : List (List ℕ)) (trees : Trees Worded) (x : List 
   pub answer : List ℤ
   pub found : Contains (slca query trees) answer
   pub below : IsAncestorOrSelf x answer
+
+-- the answers are labels of nodes
+abbrev pub AnswersAreNodes : Type 0
+AnswersAreNodes = (query : List (List ℕ)) (forest : Trees Labelled) → (x : List ℤ) → Contains (slca query (worded forest)) x → IsTrue (edits.has x forest)
 
 -- the answers are the smallest full nodes
 abbrev pub AnswersAreSmallest : Type 0

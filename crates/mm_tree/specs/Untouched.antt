@@ -1,5 +1,5 @@
 -- What an edit leaves as it was: in the order of the document, the nodes with their labels and kinds differ by one run alone.
-use Rattle.std.specs.Prelude.{ℤ, List, [], ◌++◌, ◌≡◌, IsTrue, Option, Some}
+use Rattle.std.specs.Prelude.{ℤ, List, [], ◌++◌, ◌≡◌, IsTrue, Some}
 use Rattle.mm_tree.specs.declared.plain.Kind.{Kind}
 use Rattle.mm_tree.specs.declared.forest.place.Place.{Place}
 use Rattle.mm_tree.specs.Trees.{Trees, Tree, one, preorder}

@@ -208,4 +208,6 @@ impl Forest {
 }
 
 #[cfg(test)]
+mod edit_tests;
+#[cfg(test)]
 pub mod tests;

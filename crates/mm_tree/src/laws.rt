@@ -1,7 +1,7 @@
 //! Laws of the definitions: each is the contract of a function that does nothing.
 
 ghost use Rattle.mm_tree.specs.Order.{PreorderIsLabelOrder};
-ghost use Rattle.mm_tree.specs.Smallest.{AnswersAreSmallest, FullNodesHaveAnswers, AnswersAreApart, AnswersRise};
+ghost use Rattle.mm_tree.specs.Smallest.{AnswersAreNodes, AnswersAreSmallest, FullNodesHaveAnswers, AnswersAreApart, AnswersRise};
 ghost use Rattle.mm_tree.specs.Untouched.{InsertLeaves, DeleteLeaves, ReplaceLeaves};
 
 /// The nodes of a well-formed forest, each before its children and these before its later
@@ -18,10 +18,11 @@ pub fn untouched()
     ensures replace { ReplaceLeaves }
 {}
 
-/// The answers of `slca` are what they are called: full nodes that have no full node below them. Each
-/// full node has one of them at or below it, none of them is an ancestor of another, and they stand in
-/// the order of the document.
+/// The answers of `slca` are what they are called: labels of full nodes that have no full node below
+/// them. Each full node has one of them at or below it, none of them is an ancestor of another, and
+/// they stand in the order of the document.
 pub fn answers_are_smallest()
+    ensures nodes { AnswersAreNodes }
     ensures smallest { AnswersAreSmallest }
     ensures reached { FullNodesHaveAnswers }
     ensures apart { AnswersAreApart }

@@ -25,7 +25,7 @@ fn element(alloc: Global, name: &str, children: Vec<Plain>) -> Result<Plain, All
     })
 }
 
-fn words(alloc: Global, text: &str) -> Result<Plain, AllocError>
+pub fn words(alloc: Global, text: &str) -> Result<Plain, AllocError>
     ensures { IfOk result (λ t. tree_of t ≡ (Words text.now, none)) }
 {
     Ok(Plain {
@@ -64,7 +64,7 @@ pub fn bibliography(alloc: Global) -> Result<Plain, AllocError>
 }
 
 /// So many elements, each in the one before.
-fn chain(alloc: Global, levels: u8) -> Result<Plain, AllocError>
+pub fn chain(alloc: Global, levels: u8) -> Result<Plain, AllocError>
     requires { 0 < levels }
     ensures { IfOk result (λ t. Take (one (tree_of t)) levels) }
 {

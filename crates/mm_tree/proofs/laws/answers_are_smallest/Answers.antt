@@ -1,5 +1,8 @@
-use Rattle.mm_tree.proofs.SmallestLaws.{answers_are_smallest, full_nodes_have_answers, answers_are_apart, answers_rise}
+use Rattle.mm_tree.proofs.SmallestLaws.{answers_are_nodes, answers_are_smallest, full_nodes_have_answers, answers_are_apart, answers_rise}
 use Rattle.mm_tree.proofs.laws.answers_are_smallest.Goals as goal
+
+pub returns-clause-nodes : goal.returns-clause-nodes
+returns-clause-nodes c = answers_are_nodes
 
 pub returns-clause-smallest : goal.returns-clause-smallest
 returns-clause-smallest c = answers_are_smallest

@@ -1,5 +1,5 @@
 use Rattle.std.proofs.Common.{ap, sym, ◌∙◌, ◌≡◌}
-use Rattle.std.specs.Prelude.{Some, None}
+use Rattle.std.specs.Prelude.{Some}
 use Rattle.mm_tree.specs.Numbering.{forest_of, node_of}
 use Rattle.mm_tree.specs.Ways.{found_down}
 use Rattle.mm_tree.proofs.EditFacts.{absent_by, found_by, present_by, the_deletion, deletion_formed, absent_delete, accepted_delete, size_is}

@@ -1,5 +1,5 @@
-use Rattle.std.proofs.Common.{◌≡◌, sym, ◌∙◌, List}
-use Rattle.std.specs.Prelude.{ℤ, Option, IfOk, IfErr, option_map}
+use Rattle.std.proofs.Common.{◌≡◌, sym, ◌∙◌}
+use Rattle.std.specs.Prelude.{IfOk, IfErr, option_map}
 use Rattle.mm_label.specs.Between.{between, IsOrdered, LiesBetween}
 use Rattle.mm_label.specs.Answers.{RefusesSegment}
 use Rattle.mm_tree.specs.Edits.{left_segment, right_segment}
