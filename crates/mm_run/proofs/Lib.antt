@@ -8,5 +8,6 @@ pub mod Heads
 pub mod Planning
 pub mod Tested
 pub mod Turns
+pub mod Spending
 pub mod Telling
 pub mod OneReply

@@ -13,7 +13,8 @@ use Rattle.mm_run.specs.Buffer.{Buffered}
 use Rattle.mm_run.specs.Commands.{all_commands}
 use Rattle.mm_run.specs.Answers.{Replies}
 use Rattle.mm_run.specs.Input.{rest, reach}
-use Rattle.mm_run.specs.Run.{State, Served, Answered, First, Tells, Writes, EndsWith, AreReplies, fault_line, HasQuit, HasNoQuit, input_limit}
+use Rattle.mm_run.specs.Steps.{Spends}
+use Rattle.mm_run.specs.Run.{State, Served, Spent, Answered, First, Tells, Writes, EndsWith, AreReplies, fault_line, HasQuit, HasNoQuit, input_limit}
 use Rattle.mm_run.proofs.Going.{prepend_known-nil}
 use Rattle.mm_run.proofs.Turns.{known-rest, append_known-twice, append_known-nil}
 
@@ -46,11 +47,11 @@ module _ (left left' written written' : Option (List ℕ)) (buffer buffer' : Buf
   first-of : (bytes replies : List ℕ) → First forest (all_commands (reach buffer) bytes) replies → First none (all_commands input_limit bytes) replies
   first-of bytes replies first = subst (λ (f : Trees Labelled). First f (all_commands input_limit bytes) replies) empty (all-of bytes (λ cs. First forest cs replies) first)
 
-  pub tells : (bytes : List ℕ) (s : Status) → left ≡ Some bytes → (s ≡ status.SourceFault → buffer'.held ≡ [])
-      → Served (record { rest = rest left buffer; reach = reach buffer; written = written; forest = forest })
-      (record { rest = rest left' buffer'; reach = reach buffer'; written = written'; forest = forest' }) s
+  pub tells : (bytes : List ℕ) (s : Status) (steps steps' : ℕ) → left ≡ Some bytes → (s ≡ status.SourceFault → buffer'.held ≡ [])
+      → Served (record { rest = rest left buffer; reach = reach buffer; written = written; forest = forest; steps = steps })
+      (record { rest = rest left' buffer'; reach = reach buffer'; written = written'; forest = forest'; steps = steps' }) s
       → Tells left left' written written' bytes s
-  tells bytes status.Ok known held served =
+  tells bytes status.Ok steps steps' known held served =
       let answered = served.0.each bytes (bare left buffer nothing ∙ known) in (
         answered.replies,
         all-of bytes (λ cs. AreReplies cs answered.replies) (replied answered empty),
@@ -62,23 +63,23 @@ module _ (left left' written written' : Option (List ℕ)) (buffer buffer' : Buf
             (λ quit. inr (all-of bytes HasQuit (quit bytes (bare left buffer nothing ∙ known))))
             served.1.why,
       )
-  tells bytes status.Usage known held served = served
-  tells bytes status.DiskFault known held served = served
-  tells bytes (status.Damaged damage) known held served = served
-  tells bytes status.SourceFault known held served = (
+  tells bytes status.Usage steps steps' known held served = served
+  tells bytes status.DiskFault steps steps' known held served = served
+  tells bytes (status.Damaged damage) steps steps' known held served = served
+  tells bytes status.SourceFault steps steps' known held served = (
     served.got,
     served.answered.replies,
     sym (bare left buffer nothing) ∙ served.moved.bytes ∙ ap (prepend_known served.got) (bare left' buffer' (held refl)),
     replied served.answered empty,
     served.answered.written,
   )
-  tells bytes status.SinkFault known held served =
+  tells bytes status.SinkFault steps steps' known held served =
       let h = served.each bytes (bare left buffer nothing ∙ known) in
       (h.0, first-of bytes h.0 h.1, h.2, h.3)
-  tells bytes status.Memory known held served =
+  tells bytes status.Memory steps steps' known held served =
       let h = served.each bytes (bare left buffer nothing ∙ known) in
       (h.0, first-of bytes h.0 h.1, h.2)
-  tells bytes status.TooMuchInput known held served =
+  tells bytes status.TooMuchInput steps steps' known held served =
       let empty_now : buffer'.held ≡ [] = nil_from_length _ (omega (arith, served.1.full)) in
       let answered = served.0.each bytes (bare left buffer nothing ∙ known) in (
         served.1.got,
@@ -89,6 +90,13 @@ module _ (left left' written written' : Option (List ℕ)) (buffer buffer' : Buf
         all-of bytes (λ cs. AreReplies cs answered.replies) (replied answered empty),
         answered.written,
       )
+
+  pub spends : (bytes : List ℕ) (steps steps' : ℕ) → left ≡ Some bytes
+      → Spent (record { rest = rest left buffer; reach = reach buffer; written = written; forest = forest; steps = steps })
+      (record { rest = rest left' buffer'; reach = reach buffer'; written = written'; forest = forest'; steps = steps' })
+      → Spends none (all_commands input_limit bytes) steps steps'
+  spends bytes steps steps' known spent =
+      subst (λ (f : Trees Labelled). Spends f (all_commands input_limit bytes) steps steps') empty (all-of bytes (λ cs. Spends forest cs steps steps') (spent.each bytes (bare left buffer nothing ∙ known)))
 
 -- memory ran out before anything was read
 pub told-nothing : (left left' written : Option (List ℕ)) (bytes : List ℕ) → Tells left left' written written bytes status.Memory

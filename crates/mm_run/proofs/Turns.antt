@@ -140,7 +140,7 @@ answered-quit {a} {b} command quit w f = record {
 }
 
 -- what one turn leaves of the commands
-rest-of : {a b : State} (turned : Turned a b) (bytes : List ℕ) → a.rest ≡ Some bytes
+pub rest-of : {a b : State} (turned : Turned a b) (bytes : List ℕ) → a.rest ≡ Some bytes
     → (rest : List ℕ) × (b.rest ≡ Some rest) × (all_commands a.reach bytes ≡ turned.command ∷ all_commands b.reach rest)
 rest-of {a} {b} turned bytes known =
     let k = known-rest a.rest b.rest turned.got bytes turned.moved.bytes known in

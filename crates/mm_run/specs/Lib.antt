@@ -7,4 +7,5 @@ pub mod Input
 pub mod Step
 pub mod Answers
 pub mod Edits
+pub mod Steps
 pub mod Run

@@ -1,5 +1,5 @@
 -- What a run does.
-use Rattle.std.specs.Prelude.{◌≡◌, ℕ, ◌<◌, ◌≤◌, ◌^◌, true, false, List, [], ◌∷◌, ◌++◌, length, take, Result, Ok, Err, Some, ◌⊎◌, codes, None}
+use Rattle.std.specs.Prelude.{◌≡◌, ℕ, ◌+◌, ◌<◌, ◌≤◌, ◌^◌, true, false, List, [], ◌∷◌, ◌++◌, length, take, Result, Ok, Err, Some, ◌⊎◌, codes, None}
 use Rattle.std.specs.declared.option.Option.{Option}
 use Rattle.std.specs.Io.KnownBytes.{prepend_known, append_known, IsAtEnd}
 use Rattle.mm_host.specs.Causes.{Rose}
@@ -13,15 +13,17 @@ use Rattle.mm_run.specs.declared.status.Went.TheVariants as went
 use Rattle.mm_run.specs.Forms.{quits}
 use Rattle.mm_run.specs.Commands.{commands, all_commands}
 use Rattle.mm_run.specs.Answers.{Answers, Replies}
+use Rattle.mm_run.specs.Steps.{cost, Spends}
 use Rattle.mm_run.specs.Input as input
 use Rattle.mm_run.specs.Step.{Cuts}
 
--- what is before a run: the bytes left and how many of them count, the bytes written, and the forest
+-- what is before a run: the bytes left and how many of them count, the bytes written, the forest, and the steps taken
 pub record State : Type 0 where
   pub rest : Option (List ℕ)
   pub reach : ℕ
   pub written : Option (List ℕ)
   pub forest : Trees Labelled
+  pub steps : ℕ
 
 -- one of these ends the run
 abbrev pub HasQuit : List Command → Type 0
@@ -52,6 +54,7 @@ pub record Turned (old new : State) : Type 0 where
   pub cuts : Cuts None got (command ∷ [])
   pub goes_on : quits command.form ≡ false
   pub answered : Answered old new (command ∷ [])
+  pub spent : new.steps ≤ old.steps + cost old.forest command
 
 -- All commands were answered.
 pub record All (old new : State) : Type 0 where
@@ -104,6 +107,16 @@ Served old new status.DiskFault = ⊥
 Served old new (status.Damaged damage) = ⊥
 Served old new status.Memory = Started old new
 Served old new status.TooMuchInput = All old new × Filled old new
+
+-- The steps since are those of the commands.
+pub record Spent (old new : State) : Type 0 where
+  pub each : (bytes : List ℕ) → old.rest ≡ Some bytes → Spends old.forest (all_commands old.reach bytes) old.steps new.steps
+
+-- The steps of a turn that ends the run.
+abbrev pub EndSpends : State → State → Result Went Status → Type 0
+EndSpends old new (Ok went.Answered) = Unit {0}
+EndSpends old new (Ok went.Ended) = Spent old new
+EndSpends old new (Err s) = Spent old new
 
 -- What one turn does.
 abbrev pub GivesTurn : State → State → Result Went Status → Type 0

@@ -1,9 +1,10 @@
 // What a command is answered.
-ghost use Rattle.std.specs.Prelude.{◌≡◌, IfOk, MatchOption};
+ghost use Rattle.std.specs.Prelude.{◌≡◌, ◌≤◌, ◌+◌, IfOk, MatchOption};
 ghost use Rattle.mm_label.specs.Label.{IsLabel};
 ghost use Rattle.mm_label.specs.Text.{text_of, IsNoLabelText};
 ghost use Rattle.mm_tree.specs.Edits.{found};
 ghost use Rattle.mm_tree.specs.Numbering.{forest_of};
+ghost use Rattle.mm_run.specs.Steps.{line_cost, cost};
 ghost use Rattle.mm_run.specs.Answers.{AnswersLoad, AnswersInsert, AnswersReplace, AnswersDelete, AnswersFound, AnswersShow, AnswersLine, Answers};
 
 use crate::command::{Command, Payload};
@@ -12,7 +13,9 @@ use crate::searching::answer_search;
 use mm_command::{Line, Reply, tree_reply, write_reply};
 use mm_label::{Label, LabelError};
 use mm_tree::{Forest, Place, Refusal, Text, TreeError};
+use mm_steps::Steps;
 use std::alloc::{AllocError, Global};
+use std::sync::ledger::Ledger;
 
 /// The label of this text, or None where it is no label's.
 fn read_label(alloc: Global, text: &Text) -> Result<Option<Label>, AllocError>
@@ -104,13 +107,15 @@ fn answer_show(alloc: Global, forest: &Forest, text: &Text) -> Result<Vec<u8>, A
 }
 
 /// Carries out what a line asks for.
-fn answer_line(
+fn answer_line<L: Ledger>(
     alloc: Global,
     forest: &mut Forest,
     line: &Line,
     payload: Payload,
+    steps: &mut Steps<L>,
 ) -> Result<Vec<u8>, AllocError>
-    ensures { IfOk result (λ reply. AnswersLine line.now payload (forest_of forest.old) reply.items (forest_of forest.new)) }
+    ensures steps { steps.new ≤ steps.old + line_cost line.now (forest_of forest.old) }
+    ensures answer { IfOk result (λ reply. AnswersLine line.now payload (forest_of forest.old) reply.items (forest_of forest.new)) }
 {
     match line {
         Line::Blank | Line::Quit => Ok(Vec::new(alloc)),
@@ -118,19 +123,25 @@ fn answer_line(
         Line::Insert { place, label } => answer_insert(alloc, forest, *place, label, payload),
         Line::Delete { label } => answer_delete(alloc, forest, label),
         Line::Replace { label } => answer_replace(alloc, forest, label, payload),
-        Line::Search { find, text } => answer_search(alloc, forest, *find, text),
+        Line::Search { find, text } => answer_search(alloc, forest, *find, text, steps),
         Line::Show { label } => answer_show(alloc, forest, label),
     }
 }
 
 /// Carries a command out. The bytes are its reply.
-#[tactic(auto, unfolding(crate::specs::Answers::Answers))]
-pub fn answer(alloc: Global, forest: &mut Forest, command: Command) -> Result<Vec<u8>, AllocError>
-    ensures { IfOk result (λ reply. Answers (forest_of forest.old) command reply.items (forest_of forest.new)) }
+#[tactic(auto, unfolding(crate::specs::Answers::Answers, crate::specs::Steps::cost))]
+pub fn answer<L: Ledger>(
+    alloc: Global,
+    forest: &mut Forest,
+    command: Command,
+    steps: &mut Steps<L>,
+) -> Result<Vec<u8>, AllocError>
+    ensures steps { steps.new ≤ steps.old + cost (forest_of forest.old) command }
+    ensures answer { IfOk result (λ reply. Answers (forest_of forest.old) command reply.items (forest_of forest.new)) }
 {
     let Command { form, payload } = command;
     match form {
         None => refuse(alloc, Refusal::Command),
-        Some(line) => answer_line(alloc, forest, &line, payload),
+        Some(line) => answer_line(alloc, forest, &line, payload, steps),
     }
 }

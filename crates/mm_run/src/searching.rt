@@ -1,17 +1,23 @@
 // Searches.
-ghost use Rattle.std.specs.Prelude.{◌≡◌, IfOk, OnOk, ◌++◌, map};
+ghost use Rattle.std.specs.Prelude.{◌≡◌, ◌≤◌, ◌+◌, IfOk};
 ghost use Rattle.mm_tree.specs.Numbering.{forest_of};
 ghost use Rattle.mm_tree.specs.Hits.{name_at, hits_of};
 ghost use Rattle.mm_run.specs.Answers.{answers, AnswersSearch};
+ghost use Rattle.mm_run.specs.Steps.{find_cost, search_cost};
 
 use crate::editing::refuse;
 use mm_command::{Find, Reply, write_reply};
 use mm_label::Label;
 use mm_list::Items;
-use mm_tree::{Forest, Hit, Hits, Refusal, Text, slca};
+use mm_host::Fault;
+use mm_lists::MemLists;
+use mm_slca::answers as slca;
+use mm_steps::Steps;
+use mm_tree::{Forest, Hit, Hits, Refusal, Text};
 use mm_words::calls::query;
 use mm_words::{Query, QueryError};
 use std::alloc::{AllocError, Global};
+use std::sync::ledger::Ledger;
 
 /// The name of the node that has the label, and nothing where no node has it.
 fn name_at(alloc: Global, forest: &Forest, label: &Label) -> Result<Text, AllocError>
@@ -38,27 +44,36 @@ fn hits_of(alloc: Global, forest: &Forest, labels: &[Label]) -> Result<Hits, All
 }
 
 /// The labels that a search finds.
-fn answers(
+fn answers<L: Ledger>(
     alloc: Global,
     forest: &Forest,
     find: Find,
     query: &Query,
+    steps: &mut Steps<L>,
 ) -> Result<Items<Label>, AllocError>
-    ensures { IfOk result (λ labels. labels ≡ answers find query.now (forest_of forest.now)) }
+    ensures labels { IfOk result (λ labels. labels ≡ answers find query.now (forest_of forest.now)) }
+    ensures steps { steps.new ≤ steps.old + find_cost find query.now (forest_of forest.now) }
 {
+    let mut lists = MemLists::of(alloc, forest)?;
     match find {
-        Find::Slca => slca(alloc, forest, query),
+        Find::Slca => match slca(alloc, query, &mut lists, steps) {
+            Ok(labels) => Ok(labels),
+            Err(Fault::Memory) => Err(AllocError),
+            Err(Fault::DiskFault | Fault::Spent | Fault::Damaged(_)) => unreachable!(),
+        },
     }
 }
 
 /// What a search for the words of a text is answered.
-pub fn answer_search(
+pub fn answer_search<L: Ledger>(
     alloc: Global,
     forest: &Forest,
     find: Find,
     text: &Text,
+    steps: &mut Steps<L>,
 ) -> Result<Vec<u8>, AllocError>
-    ensures { IfOk result (λ reply. AnswersSearch find text.now (forest_of forest.now) reply.items (forest_of forest.now)) }
+    ensures answer { IfOk result (λ reply. AnswersSearch find text.now (forest_of forest.now) reply.items (forest_of forest.now)) }
+    ensures steps { steps.new ≤ steps.old + search_cost find text.now (forest_of forest.now) }
 {
     match query(alloc, text.as_str()) {
         Err(QueryError::NoWords) => refuse(alloc, Refusal::Words),
@@ -66,7 +81,7 @@ pub fn answer_search(
         Err(QueryError::TooLong { .. }) => refuse(alloc, Refusal::Long),
         Err(QueryError::Memory) => Err(AllocError),
         Ok(query) => {
-            let labels = answers(alloc, forest, find, &query)?;
+            let labels = answers(alloc, forest, find, &query, steps)?;
             let hits = hits_of(alloc, forest, labels.as_slice())?;
             write_reply(alloc, &Reply::Hits(hits))
         }

@@ -1,9 +1,10 @@
 // Turns and runs.
-ghost use Rattle.std.specs.Prelude.{◌≡◌, ◌≤◌, [], Err};
+ghost use Rattle.std.specs.Prelude.{◌≡◌, ◌≤◌, ◌+◌, [], Err};
 ghost use Rattle.mm_host.specs.Causes.{Rose};
 ghost use Rattle.mm_tree.specs.Numbering.{forest_of};
 ghost use Rattle.mm_run.specs.Input.{rest, reach};
-ghost use Rattle.mm_run.specs.Run.{State, Served, GivesTurn, GivesAnswer, HasCauses};
+ghost use Rattle.mm_run.specs.Run.{State, Served, Spent, GivesTurn, EndSpends, GivesAnswer, HasCauses};
+ghost use Rattle.mm_run.specs.Steps.{cost};
 ghost use Rattle.mm_run.specs.declared.status.Status.TheVariants as status;
 
 use crate::answering::answer;
@@ -13,21 +14,25 @@ use crate::line::ReadError;
 use crate::reading::{Next, next_command};
 use crate::status::{Status, Went};
 use mm_host::{Sink, Source, write_all};
+use mm_steps::Steps;
 use mm_tree::Forest;
 use std::alloc::Global;
+use std::sync::ledger::Ledger;
 
 /// Carries a command out, and writes its reply whole.
-fn reply<W: Sink>(
+fn reply<W: Sink, L: Ledger>(
     alloc: Global,
     command: Command,
     sink: &mut W,
     forest: &mut Forest,
+    steps: &mut Steps<L>,
 ) -> Result<(), Status>
     ensures answer { GivesAnswer command (W.written sink.old) (W.written sink.new) (forest_of forest.old) (forest_of forest.new) result }
+    ensures steps { steps.new ≤ steps.old + cost (forest_of forest.old) command }
     ensures later { W.fault_count sink.old ≤ W.fault_count sink.new }
     ensures cause { result ≡ Err status.SinkFault → Rose (W.fault_count sink.old) (W.fault_count sink.new) }
 {
-    match answer(alloc, forest, command) {
+    match answer(alloc, forest, command, steps) {
         Err(_) => Err(Status::Memory),
         Ok(reply) => match write_all(sink, reply.as_slice()) {
             Err(_) => Err(Status::SinkFault),
@@ -37,16 +42,21 @@ fn reply<W: Sink>(
 }
 
 /// Reads a command and answers it.
-fn turn<S: Source, W: Sink>(
+fn turn<S: Source, W: Sink, L: Ledger>(
     alloc: Global,
     source: &mut S,
     buffer: &mut Buffer,
     sink: &mut W,
     forest: &mut Forest,
+    steps: &mut Steps<L>,
 ) -> Result<Went, Status>
     ensures turn { GivesTurn
-        (record { rest = rest (S.left source.old) buffer.old; reach = reach buffer.old; written = W.written sink.old; forest = forest_of forest.old })
-        (record { rest = rest (S.left source.new) buffer.new; reach = reach buffer.new; written = W.written sink.new; forest = forest_of forest.new })
+        (record { rest = rest (S.left source.old) buffer.old; reach = reach buffer.old; written = W.written sink.old; forest = forest_of forest.old; steps = steps.old })
+        (record { rest = rest (S.left source.new) buffer.new; reach = reach buffer.new; written = W.written sink.new; forest = forest_of forest.new; steps = steps.new })
+        result }
+    ensures spent { EndSpends
+        (record { rest = rest (S.left source.old) buffer.old; reach = reach buffer.old; written = W.written sink.old; forest = forest_of forest.old; steps = steps.old })
+        (record { rest = rest (S.left source.new) buffer.new; reach = reach buffer.new; written = W.written sink.new; forest = forest_of forest.new; steps = steps.new })
         result }
     ensures none { result ≡ Err status.SourceFault → buffer.new.held ≡ [] }
     ensures causes { HasCauses (S.fault_count source.old) (S.fault_count source.new) (W.fault_count sink.old) (W.fault_count sink.new) result }
@@ -57,11 +67,11 @@ fn turn<S: Source, W: Sink>(
         Ok(Next::Full) => Err(Status::TooMuchInput),
         Ok(Next::End) => Ok(Went::Ended),
         Ok(Next::Quit) => Ok(Went::Ended),
-        Ok(Next::Last(command)) => match reply(alloc, command, sink, forest) {
+        Ok(Next::Last(command)) => match reply(alloc, command, sink, forest, steps) {
             Ok(()) => Ok(Went::Ended),
             Err(status) => Err(status),
         },
-        Ok(Next::Command(command)) => match reply(alloc, command, sink, forest) {
+        Ok(Next::Command(command)) => match reply(alloc, command, sink, forest, steps) {
             Ok(()) => Ok(Went::Answered),
             Err(status) => Err(status),
         },
@@ -69,17 +79,21 @@ fn turn<S: Source, W: Sink>(
 }
 
 /// Answers commands until the input ends or something fails.
-pub fn serve<S: Source, W: Sink>(
+pub fn serve<S: Source, W: Sink, L: Ledger>(
     alloc: Global,
     source: &mut S,
     buffer: &mut Buffer,
     sink: &mut W,
     forest: &mut Forest,
+    steps: &mut Steps<L>,
 ) -> Status
     ensures served { Served
-        (record { rest = rest (S.left source.old) buffer.old; reach = reach buffer.old; written = W.written sink.old; forest = forest_of forest.old })
-        (record { rest = rest (S.left source.new) buffer.new; reach = reach buffer.new; written = W.written sink.new; forest = forest_of forest.new })
+        (record { rest = rest (S.left source.old) buffer.old; reach = reach buffer.old; written = W.written sink.old; forest = forest_of forest.old; steps = steps.old })
+        (record { rest = rest (S.left source.new) buffer.new; reach = reach buffer.new; written = W.written sink.new; forest = forest_of forest.new; steps = steps.new })
         result }
+    ensures spent { Spent
+        (record { rest = rest (S.left source.old) buffer.old; reach = reach buffer.old; written = W.written sink.old; forest = forest_of forest.old; steps = steps.old })
+        (record { rest = rest (S.left source.new) buffer.new; reach = reach buffer.new; written = W.written sink.new; forest = forest_of forest.new; steps = steps.new }) }
     ensures none { result ≡ status.SourceFault → buffer.new.held ≡ [] }
     ensures source_later { S.fault_count source.old ≤ S.fault_count source.new }
     ensures sink_later { W.fault_count sink.old ≤ W.fault_count sink.new }
@@ -87,7 +101,7 @@ pub fn serve<S: Source, W: Sink>(
     ensures sink_cause { result ≡ status.SinkFault → Rose (W.fault_count sink.old) (W.fault_count sink.new) }
 {
     'turns: loop {
-        match turn(alloc, source, buffer, sink, forest) {
+        match turn(alloc, source, buffer, sink, forest, steps) {
             Ok(Went::Answered) => {}
             Ok(Went::Ended) => return Status::Ok,
             Err(status) => return status,

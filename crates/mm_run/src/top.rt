@@ -2,7 +2,10 @@
 ghost use Rattle.std.specs.Prelude.{◌≡◌, ◌≢◌, ◌≤◌, ◌<◌, ◌+◌, ◌^◌, ◌↔◌, ℕ, List, length, Some, []};
 ghost use Rattle.mm_host.specs.Causes.{Rose};
 ghost use Rattle.mm_host.specs.declared.damage.Damage.{Damage};
-ghost use Rattle.mm_run.specs.Run.{Tells, Writes, EndsWith, fault_line};
+ghost use Rattle.mm_run.specs.Run.{Tells, Writes, EndsWith, fault_line, input_limit};
+ghost use Rattle.mm_tree.specs.Trees.{none};
+ghost use Rattle.mm_run.specs.Commands.{all_commands};
+ghost use Rattle.mm_run.specs.Steps.{Spends};
 ghost use Rattle.mm_run.specs.declared.status.Status.TheVariants as status;
 
 use crate::buffer::Buffer;
@@ -27,7 +30,13 @@ fn write_fault<W: Sink>(sink: &mut W, status: &Status)
 }
 
 /// Answers the commands of a source, from the empty forest.
-fn run_commands<S: Source, W: Sink>(alloc: Global, source: &mut S, sink: &mut W) -> Status
+fn run_commands<S: Source, W: Sink, L: Ledger>(
+    alloc: Global,
+    source: &mut S,
+    sink: &mut W,
+    steps: &mut Steps<L>,
+) -> Status
+    ensures steps { (bytes : List ℕ) → S.left source.old ≡ Some bytes → Spends none (all_commands input_limit bytes) steps.old steps.new }
     ensures told { (bytes : List ℕ) → S.left source.old ≡ Some bytes
         → Tells (S.left source.old) (S.left source.new) (W.written sink.old) (W.written sink.new) bytes result }
     ensures usage { result ≢ status.Usage }
@@ -42,7 +51,7 @@ fn run_commands<S: Source, W: Sink>(alloc: Global, source: &mut S, sink: &mut W)
         Err(_) => Status::Memory,
         Ok(mut buffer) => {
             let mut forest = Forest::new(alloc);
-            serve(alloc, source, &mut buffer, sink, &mut forest)
+            serve(alloc, source, &mut buffer, sink, &mut forest, steps)
         }
     }
 }
@@ -68,15 +77,17 @@ pub fn run<S: Source, W: Sink, D: Disk, L: Ledger>(
     ensures no_disk_fault { result ≢ status.DiskFault }
     ensures no_damage { (damage : Damage) → result ≢ status.Damaged damage }
 
-    // The disk isn't called, and no step is taken.
+    // The steps are at most those that the commands may take, each in the forest that it finds.
+    ensures steps { (bytes : List ℕ) → S.left source.old ≡ Some bytes → Spends none (all_commands input_limit bytes) steps.old steps.new }
+
+    // The disk isn't called.
     ensures disk { disk.new ≡ disk.old }
-    ensures steps { steps.new ≡ steps.old }
 {
     if words.len() != 1 {
         write_fault(sink, &Status::Usage);
         return Status::Usage;
     }
-    let status = run_commands(alloc, source, sink);
+    let status = run_commands(alloc, source, sink, steps);
     write_fault(sink, &status);
     status
 }
