@@ -37,7 +37,7 @@ pub either_tests : {A : Type 0} (p q : A → Bool) (xs : List A) → either (map
 either_tests p q [] = refl
 either_tests p q (x ∷ xs) = ap (λ bs. (p x || q x) ∷ bs) (either_tests p q xs)
 
-or_assoc : (a b c : Bool) → ((a || b) || c) ≡ (a || (b || c))
+pub or_assoc : (a b c : Bool) → ((a || b) || c) ≡ (a || (b || c))
 or_assoc true b c = refl
 or_assoc false b c = refl
 

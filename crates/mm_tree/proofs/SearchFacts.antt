@@ -9,27 +9,14 @@ use Rattle.mm_tree.specs.Trees.{Trees, none, node, Tree, one}
 use Rattle.mm_tree.specs.Numbering.{Labelled, node_of, forest_of}
 use Rattle.mm_tree.specs.Search.{Worded, own, worded, has, holds, is_full, some_full, slca}
 use Rattle.mm_tree.specs.Searching.{either, held, held_by, own_answer, worded_node}
-use Rattle.mm_tree.proofs.FlagFacts.{either_tests, either_twice, either_never, or_false}
+use Rattle.mm_tree.proofs.FlagFacts.{either_tests, either_twice, either_never, or_false, or_true, or_assoc}
+use Rattle.mm_tree.proofs.NumberFacts.{both_true, both_parts}
 use Rattle.std.proofs.lemmas.List.{drop_all}
 use Rattle.mm_tree.proofs.PlaceFacts.{node_of_out}
-
-both_parts : (a b : Bool) → (a && b) ≡ true → (a ≡ true) × (b ≡ true)
-both_parts true b e = (refl, e)
-both_parts false b e = absurd cc
-
-both_true : (a b : Bool) → a ≡ true → b ≡ true → (a && b) ≡ true
-both_true a b e f = rw (e, f) refl
 
 neither : (a b : Bool) → (a || b) ≡ false → (a ≡ false) × (b ≡ false)
 neither true b e = absurd cc
 neither false b e = (refl, e)
-
-left_true : (a b : Bool) → a ≡ true → (a || b) ≡ true
-left_true a b e = rw e refl
-
-right_true : (a b : Bool) → b ≡ true → (a || b) ≡ true
-right_true true b e = refl
-right_true false b e = e
 
 -- ---- full nodes
 
@@ -59,7 +46,7 @@ above_some : (query : List (List ℕ)) (e : Worded) (inner trees : Trees Worded)
     → some_full query trees ≡ true → is_full query e inner ≡ true
 above_some query e inner none up h = absurd cc
 above_some query e inner (node d below rest) up h =
-    by_test (is_full query d below) refl h (above_some query e inner rest (λ w a. up w (right_true (has d w) _ (right_true (holds w below) _ a))))
+    by_test (is_full query d below) refl h (above_some query e inner rest (λ w a. up w (ap (λ b. has d w || (holds w below || b)) a ∙ ap (λ b. has d w || b) (or_true (holds w below)) ∙ or_true (has d w))))
   where
     by_test : (b : Bool) → is_full query d below ≡ b → (b || some_full query rest) ≡ true → (some_full query rest ≡ true → is_full query e inner ≡ true) → is_full query e inner ≡ true
     by_test true f k later = full_above query e d inner below (λ w a. up w (first_holds w d below rest a)) f
@@ -67,7 +54,7 @@ above_some query e inner (node d below rest) up h =
 
 -- a node with a full child is full
 pub full_of_child : (query : List (List ℕ)) (e : Worded) (inner : Trees Worded) → some_full query inner ≡ true → is_full query e inner ≡ true
-full_of_child query e inner = above_some query e inner inner (λ w a. right_true (has e w) _ a)
+full_of_child query e inner = above_some query e inner inner (λ w a. ap (λ b. has e w || b) a ∙ or_true (has e w))
 
 -- ---- answers
 
@@ -150,10 +137,6 @@ answer_below query e inner s = ap (λ b. cond (is_full query e inner && not b) (
     by_test false = refl
 
 -- ---- one tree after the other
-
-or_assoc : (a b c : Bool) → ((a || b) || c) ≡ (a || (b || c))
-or_assoc true b c = refl
-or_assoc false b c = refl
 
 one_holds : (w : List ℕ) (e : Worded) (inner rest : Trees Worded) → (holds w (node e inner none) || holds w rest) ≡ holds w (node e inner rest)
 one_holds w e inner rest = by_tests (has e w) (holds w inner)
