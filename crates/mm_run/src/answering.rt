@@ -12,8 +12,8 @@ use crate::editing::{Edit, answer_bytes, refuse};
 use crate::searching::answer_search;
 use mm_command::{Line, Reply, tree_reply, write_reply};
 use mm_label::{Label, LabelError};
-use mm_tree::{Forest, Place, Refusal, Text, TreeError};
 use mm_steps::Steps;
+use mm_tree::{Forest, Place, Refusal, Text, TreeError};
 use std::alloc::{AllocError, Global};
 use std::sync::ledger::Ledger;
 

@@ -7,9 +7,9 @@ ghost use Rattle.mm_run.specs.Steps.{find_cost, search_cost};
 
 use crate::editing::refuse;
 use mm_command::{Find, Reply, write_reply};
+use mm_host::Fault;
 use mm_label::Label;
 use mm_list::Items;
-use mm_host::Fault;
 use mm_lists::MemLists;
 use mm_slca::answers as slca;
 use mm_steps::Steps;
