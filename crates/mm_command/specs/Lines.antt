@@ -1,5 +1,5 @@
 -- Which bytes are which command line.
-use Rattle.std.specs.Prelude.{ℕ, Bool, true, false, if◌then◌else◌, ◌==◌, ◌&&◌, not, nat_le, List, [], ◌∷◌, ◌≡◌, refl, length, codes, option_map, Result, Ok, Err, ⊤}
+use Rattle.std.specs.Prelude.{ℕ, Bool, if◌then◌else◌, ◌==◌, ◌&&◌, not, nat_le, List, [], ◌∷◌, ◌≡◌, length, codes, option_map, Result, Ok, Err, ⊤}
 use Rattle.std.specs.declared.option.Option.{Option}
 use Rattle.std.specs.declared.option.Option.TheVariants.{Some, None}
 use Rattle.std.specs.List.{list_all, list_any, before_first, after_first}

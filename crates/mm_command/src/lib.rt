@@ -3,6 +3,10 @@
 
 mod line;
 mod reading;
+mod reply;
+#[cfg(test)]
+mod tests;
 
 pub use line::{Find, Line, LineError};
 pub use reading::read_line;
+pub use reply::{Reply, tree_reply, write_reply};

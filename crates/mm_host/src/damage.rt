@@ -1,6 +1,7 @@
 // What is wrong with a disk's bytes, and what a store over a disk may answer.
 use crate::bytes::Bytes;
 use crate::disk::Area;
+use std::alloc::AllocError;
 
 /// The first thing that is wrong with the bytes of a disk.
 #[derive(Debug, Drop)]
@@ -55,4 +56,15 @@ pub enum Fault {
     Spent,
     /// There was no memory.
     Memory,
+}
+
+impl From<AllocError> for Fault {
+    ghost use Rattle.std.specs.Prelude.{◌≡◌};
+    ghost use Rattle.mm_host.specs.declared.damage.Fault.TheVariants.{Memory};
+
+    ghost from_gives = { λ _ e. e ≡ Memory };
+
+    fn from(_error: AllocError) -> Fault {
+        Fault::Memory
+    }
 }

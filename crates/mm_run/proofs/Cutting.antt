@@ -3,8 +3,7 @@ use Rattle.std.proofs.Common.{◌≡◌, ℕ, ◌<◌, Bool, true, false, List, 
 use Rattle.std.specs.declared.option.Option.{Option}
 use Rattle.std.specs.Io.KnownBytes.{IsAtEnd}
 use Rattle.mm_run.specs.declared.command.Command.{Command}
-use Rattle.mm_run.specs.declared.command.Form.{Form}
-use Rattle.mm_run.specs.declared.command.Form.TheVariants.{Blank, Load, Quit, Unknown}
+use Rattle.mm_command.specs.declared.line.Line.TheVariants.{Blank, Load, Insert, Delete, Replace, Search, Show, Quit}
 use Rattle.mm_run.specs.declared.command.Payload.{Payload}
 use Rattle.mm_run.specs.declared.command.Payload.TheVariants.{Nothing, Cut}
 use Rattle.mm_run.specs.declared.reading.Next.{Next}
@@ -12,13 +11,13 @@ use Rattle.mm_run.specs.declared.reading.Next.TheVariants as next
 use Rattle.mm_run.specs.declared.line.ReadError.{ReadError}
 use Rattle.mm_run.specs.declared.line.ReadError.TheVariants.{Source, Memory}
 use Rattle.mm_run.specs.Lines.{lines, HasNoLineFeed}
-use Rattle.mm_run.specs.Forms.{form_of, takes_payload, quits}
+use Rattle.mm_run.specs.Forms.{Form, form_of, takes_payload, quits}
 use Rattle.mm_run.specs.Payloads.{closes, payload_of}
 use Rattle.mm_run.specs.Commands.{Begun, grouped}
 use Rattle.mm_run.specs.Input.{Went}
 use Rattle.mm_run.specs.Step.{WentPart, WentRow, WentLastRow, WentCommand, WentLast, WentQuit, WentRest, GivesNext, IsLast, last_payload}
 use Rattle.mm_run.proofs.Going.{went-more}
-use Rattle.mm_run.proofs.Spaces.{test-false}
+use Rattle.mm_run.proofs.Tested.{test-false}
 
 -- a whole line comes first
 lines-line : (line more : List ℕ) (ended : Bool) → HasNoLineFeed line → lines (line ++ 10 ∷ more) ended ≡ line ∷ lines more ended
@@ -154,10 +153,15 @@ went-payload line went part other takes c k result given = next-after (begin-lea
 last-form : (form : Form) → ◌≡◌ {A = List Command}
     (cond {A = List Command} (quits form) (record { form = form; payload = Nothing } ∷ []) (cond {A = List Command} (takes_payload form) (record { form = form; payload = Cut } ∷ []) (record { form = form; payload = Nothing } ∷ [])))
     (record { form = form; payload = last_payload (takes_payload form) } ∷ [])
-last-form Load = refl
-last-form Blank = refl
-last-form Quit = refl
-last-form Unknown = refl
+last-form None = refl
+last-form (Some Blank) = refl
+last-form (Some Load) = refl
+last-form (Some (Insert place label)) = refl
+last-form (Some (Delete label)) = refl
+last-form (Some (Replace label)) = refl
+last-form (Some (Search find text)) = refl
+last-form (Some (Show label)) = refl
+last-form (Some Quit) = refl
 
 -- The end of the input ends a line.
 pub went-last : {a b : Option (List ℕ)} {n m : ℕ} (line : List ℕ) (next : Next) → Went a b n m line → HasNoLineFeed line → IsAtEnd b → 0 < m → IsLast line next → GivesNext None a b n m (Ok next)

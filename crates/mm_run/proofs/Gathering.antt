@@ -1,14 +1,13 @@
 -- How a payload is gathered, line by line.
 use Rattle.std.proofs.Common.{◌≡◌, ℕ, ◌+◌, ◌<◌, true, false, List, [], ◌∷◌, ◌++◌, length, refl, ap, ◌∙◌, sym, Some, Result, Ok, Err}
 use Rattle.std.specs.declared.option.Option.{Option}
-use Rattle.mm_run.specs.declared.command.Form.{Form}
 use Rattle.mm_run.specs.declared.command.Payload.{Payload}
 use Rattle.mm_run.specs.declared.command.Payload.TheVariants.{Cut, Long}
 use Rattle.mm_run.specs.declared.reading.Next.{Next}
 use Rattle.mm_run.specs.declared.reading.Next.TheVariants as next
 use Rattle.mm_run.specs.declared.line.ReadError.{ReadError}
 use Rattle.mm_run.specs.declared.line.ReadError.TheVariants.{Source, Memory}
-use Rattle.mm_run.specs.Forms.{quits}
+use Rattle.mm_run.specs.Forms.{Form, quits}
 use Rattle.mm_run.specs.Payloads.{unstopped, joined, ended_rows, payload_of, payload_limit}
 use Rattle.mm_run.specs.Step.{WentPart, WentRow, WentLastRow, GivesRow, GivesNext}
 use Rattle.mm_run.proofs.Cutting.{after-row, row-closed, row-last, row-cut, part-rest}

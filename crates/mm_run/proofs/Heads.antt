@@ -1,11 +1,13 @@
 -- Command lines, of which only so much is kept as tells what they ask for.
-use Rattle.std.proofs.Common.{◌≡◌, ℕ, ◌+◌, ◌<◌, ◌≤◌, true, false, cond, List, [], ◌∷◌, ◌++◌, length, take, ap, sym, ◌∙◌, arith, ⊎_elim, None, Some, Result, Err, subst}
+use Rattle.std.proofs.Common.{◌≡◌, ℕ, ◌+◌, ◌<◌, ◌≤◌, true, false, cond, ◌&&◌, List, [], ◌∷◌, ◌++◌, length, take, ap, sym, ◌∙◌, arith, ⊎_elim, None, Some, Result, Ok, Err, IfOk, IfErr, subst}
 use Rattle.std.proofs.lemmas.List.{take_all, length-take, length-take-le, nil_from_length}
 use Rattle.std.proofs.lemmas.Bool.{cases_lt, lt-leb}
 use Rattle.std.specs.declared.option.Option.{Option}
+use Rattle.std.specs.Io.KnownBytes.{IsAtEnd}
 use Rattle.std.specs.Io.BufRead.{strip_last, ends_with_byte}
-use Rattle.mm_run.specs.declared.command.Form.{Form}
-use Rattle.mm_run.specs.declared.command.Form.TheVariants.{Unknown}
+use Rattle.std.specs.List.{list_all}
+use Rattle.std.specs.Str.{is_utf8}
+use Rattle.mm_command.specs.Lines.{line_of, line_of_text, line_limit, is_printable}
 use Rattle.mm_run.specs.declared.reading.Next.{Next}
 use Rattle.mm_run.specs.declared.reading.Next.TheVariants as next
 use Rattle.mm_run.specs.declared.line.ReadError.{ReadError}
@@ -13,16 +15,16 @@ use Rattle.mm_run.specs.declared.line.ReadError.TheVariants.{Source, Memory}
 use Rattle.mm_run.specs.declared.command.Payload.TheVariants.{Nothing}
 use Rattle.mm_run.specs.Lines.{HasNoLineFeed}
 use Rattle.mm_run.specs.Input.{Went}
-use Rattle.mm_run.specs.Forms.{form_of, form_of_word, after_spaces, before_spaces, line_limit, takes_payload, quits}
+use Rattle.mm_run.specs.Forms.{Form, form_of, takes_payload, quits}
 use Rattle.mm_run.specs.Step.{WentCommand, WentQuit, GivesLine, GivesNext, IsLast, last_payload}
-use Rattle.mm_run.proofs.Cutting.{part-rest, went-quit, went-alone, went-payload}
+use Rattle.mm_run.proofs.Cutting.{part-rest, went-last, went-quit, went-alone, went-payload}
 use Rattle.mm_run.proofs.Rows.{strip-at}
 
-form-long : (line : List ℕ) → line_limit + 2 ≤ length line → form_of line ≡ Unknown
-unfolding form_of
+form-long : (line : List ℕ) → line_limit + 2 ≤ length line → form_of line ≡ None
+unfolding line_of
 form-long line long =
     let most : length line ≤ length (strip_last 13 line) + 1 = strip-at (ends_with_byte 13 line) line in
-    ap (λ t. cond t (form_of_word (before_spaces (after_spaces (strip_last 13 line)))) Unknown) (lt-leb (length (strip_last 13 line)) line_limit (omega arith))
+    ap (λ t. cond (t && (list_all is_printable (strip_last 13 line) && is_utf8 (strip_last 13 line))) (line_of_text (strip_last 13 line)) None) (lt-leb (length (strip_last 13 line)) line_limit (omega arith))
 
 -- a line's first bytes tell what it asks for
 pub form-kept : (line : List ℕ) → form_of (take (line_limit + 2) line) ≡ form_of line
@@ -50,8 +52,13 @@ line-failed a b n m text text' limit Memory given = tt
 pub read-form : (line text text' now : List ℕ) (form : Form) → form ≡ form_of now → now ≡ text' → text' ≡ take (line_limit + 2) (text ++ line) → text ≡ [] → form ≡ form_of line
 read-form line text text' now form is same kept empty = is ∙ ap form_of (same ∙ kept ∙ ap (λ l. take (line_limit + 2) (l ++ line)) empty) ∙ form-kept line
 
-pub read-last : (line text text' now : List ℕ) (next : Next) → IsLast now next → now ≡ text' → text' ≡ take (line_limit + 2) (text ++ line) → text ≡ [] → IsLast line next
-read-last line text text' now next is same kept empty = last-kept line next (subst (λ l. IsLast l next) (same ∙ kept ∙ ap (λ l. take (line_limit + 2) (l ++ line)) empty) is)
+-- the end of the input ends a line that was read into an empty text
+pub last-given : {a b : Option (List ℕ)} {n m : ℕ} (line text text' now : List ℕ) (result : Result Next ReadError) → Went a b n m line → HasNoLineFeed line → IsAtEnd b → 0 < m
+    → IfOk result (λ next. IsLast now next) → IfErr result (λ e. e ≡ Memory) → now ≡ text' → text' ≡ take (line_limit + 2) (text ++ line) → text ≡ [] → GivesNext None a b n m result
+last-given line text text' now (Ok next) went part end few is memory same kept empty =
+    went-last line next went part end few (last-kept line next (subst (λ l. IsLast l next) (same ∙ kept ∙ ap (λ l. take (line_limit + 2) (l ++ line)) empty) is))
+last-given line text text' now (Err Source) went part end few is memory same kept empty = cc
+last-given line text text' now (Err Memory) went part end few is memory same kept empty = tt
 
 module _ {a b : Option (List ℕ)} {n m : ℕ} (line : List ℕ) (form : Form) (is : form ≡ form_of line) (went : Went a b n m (line ++ 10 ∷ [])) (part : HasNoLineFeed line) where
   pub head-quit : quits form ≡ true → WentQuit None a b n m

@@ -1,12 +1,12 @@
 pub mod Kept
-pub mod Spaces
 pub mod Going
 pub mod Parts
 pub mod Cutting
 pub mod Rows
 pub mod Gathering
 pub mod Heads
-pub mod Unspelled
+pub mod Planning
+pub mod Tested
 pub mod Turns
 pub mod Telling
 pub mod OneReply

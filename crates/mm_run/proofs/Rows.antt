@@ -9,7 +9,7 @@ use Rattle.std.specs.Io.BufRead.{strip_last, ends_with_byte}
 use Rattle.mm_run.specs.declared.command.Payload.TheVariants.{Whole, Long}
 use Rattle.mm_run.specs.Payloads.{closes, unstopped, joined, ended_rows, payload_of, payload_limit}
 use Rattle.mm_run.specs.Step.{EndsRow}
-use Rattle.mm_run.proofs.Spaces.{test-false}
+use Rattle.mm_run.proofs.Tested.{test-false}
 
 pub strip-at : (ends : Bool) (line : List ℕ) → length line ≤ length (cond ends (take (length line - 1) line) line) + 1
 strip-at true line = omega (arith, length-take (length line - 1) line)

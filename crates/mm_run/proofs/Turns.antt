@@ -9,12 +9,11 @@ use Rattle.std.specs.Io.KnownBytes.{prepend_known, append_known, IsAtEnd}
 use Rattle.mm_tree.specs.Trees.{Trees}
 use Rattle.mm_tree.specs.Numbering.{Labelled}
 use Rattle.mm_run.specs.declared.command.Command.{Command}
-use Rattle.mm_run.specs.declared.command.Form.{Form}
-use Rattle.mm_run.specs.declared.command.Form.TheVariants as form
+use Rattle.mm_command.specs.declared.line.Line.TheVariants as line
 use Rattle.mm_run.specs.declared.command.Payload.{Payload}
 use Rattle.mm_run.specs.declared.status.Status.{Status}
 use Rattle.mm_run.specs.declared.status.Status.TheVariants as status
-use Rattle.mm_run.specs.Forms.{quits}
+use Rattle.mm_run.specs.Forms.{Form, quits}
 use Rattle.mm_run.specs.Commands.{commands, all_commands}
 use Rattle.mm_run.specs.Answers.{Answers, AnswersForm, Replies}
 use Rattle.mm_run.specs.Step.{Cuts, WentCommand, WentLast, WentQuit, WentRest}
@@ -118,10 +117,15 @@ pub answered-one : {a b : State} (command : Command) → GivesAnswer command a.w
 answered-one {a} {b} command h = record { replies = h.0; written = h.2; all = replies-one a.forest b.forest command h.0 h.1 }
 
 quit-form : (f : Form) (payload : Payload) (forest : Trees Labelled) → quits f ≡ true → AnswersForm f payload forest [] forest
-quit-form form.Quit payload forest quit = record { line = refl; same = refl }
-quit-form form.Load payload forest quit = cc
-quit-form form.Blank payload forest quit = cc
-quit-form form.Unknown payload forest quit = cc
+quit-form None payload forest quit = cc
+quit-form (Some line.Quit) payload forest quit = record { text = refl; same = refl }
+quit-form (Some line.Blank) payload forest quit = cc
+quit-form (Some line.Load) payload forest quit = cc
+quit-form (Some (line.Insert place label)) payload forest quit = cc
+quit-form (Some (line.Delete label)) payload forest quit = cc
+quit-form (Some (line.Replace label)) payload forest quit = cc
+quit-form (Some (line.Search find text)) payload forest quit = cc
+quit-form (Some (line.Show label)) payload forest quit = cc
 
 quit-answers : (command : Command) (forest : Trees Labelled) → quits command.form ≡ true → Answers forest command [] forest
 unfolding Answers

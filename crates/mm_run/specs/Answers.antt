@@ -1,73 +1,182 @@
 -- What commands are answered, and the forests after them.
-use Rattle.std.specs.Prelude.{◌≡◌, ℕ, ℤ, if◌then◌else◌, nat_le, List, [], ◌∷◌, ◌++◌, Option, Some, None, ◌⊎◌, codes}
-use Rattle.std.specs.Fmt.{decimal}
-use Rattle.mm_label.specs.Text.{text_of}
+use Rattle.std.specs.Prelude.{◌≡◌, ℕ, ℤ, if◌then◌else◌, ◌&&◌, not, nat_le, List, [], ◌∷◌, ◌++◌, Some, None, ◌⊎◌}
+use Rattle.std.specs.declared.option.Option.{Option}
+use Rattle.mm_label.specs.Label.{IsLabel}
+use Rattle.mm_label.specs.Text.{text_of, IsNoLabelText}
+use Rattle.mm_words.specs.Words.{query_words}
+use Rattle.mm_words.specs.Refusals.{query_refusal}
+use Rattle.mm_words.specs.declared.error.QueryError.{QueryError}
+use Rattle.mm_words.specs.declared.error.QueryError.TheVariants as query
 use Rattle.mm_tree.specs.declared.plain.Kind.{Kind}
+use Rattle.mm_tree.specs.declared.forest.place.Place.{Place}
 use Rattle.mm_tree.specs.declared.refusal.Refusal.{Refusal}
 use Rattle.mm_tree.specs.declared.refusal.Refusal.TheVariants as refusal
-use Rattle.mm_tree.specs.Refusals.{number_of, word_of}
 use Rattle.mm_tree.specs.Trees.{Trees, Tree, one, nodes, levels}
 use Rattle.mm_tree.specs.Numbering.{Labelled}
 use Rattle.mm_tree.specs.Forests.{next_label, load, load_refusal}
+use Rattle.mm_tree.specs.Edits.{found, has, is_inside, is_text, subtree_size, inserted_label, insert, insert_refusal, delete, delete_refusal, replace, replace_refusal}
+use Rattle.mm_tree.specs.Search.{worded, slca}
+use Rattle.mm_tree.specs.Hits.{hits_of}
 use Rattle.mm_xml.specs.Grammar.{Spells}
+use Rattle.mm_command.specs.declared.line.Line.{Line}
+use Rattle.mm_command.specs.declared.line.Line.TheVariants as line
+use Rattle.mm_command.specs.declared.line.Find.{Find}
+use Rattle.mm_command.specs.declared.line.Find.TheVariants as find
+use Rattle.mm_command.specs.Replies.{refused_text, done_text, hits_text, tree_text, told}
+use Rattle.mm_run.specs.Forms.{Form}
 use Rattle.mm_run.specs.declared.command.Command.{Command}
-use Rattle.mm_run.specs.declared.command.Form.{Form}
-use Rattle.mm_run.specs.declared.command.Form.TheVariants as form
 use Rattle.mm_run.specs.declared.command.Payload.{Payload}
 use Rattle.mm_run.specs.declared.command.Payload.TheVariants as payload
 
--- `no`, the number and the word of a refusal, parted by spaces (32)
-abbrev pub refusal_line : Refusal → List ℕ
-refusal_line r = codes "no " ++ (decimal (number_of r) ++ 32 ∷ (word_of r ++ 10 ∷ []))
-
--- `ok`, a label and a number of nodes
-abbrev pub loaded_line : List ℤ → ℕ → List ℕ
-loaded_line label count = codes "ok " ++ (text_of label ++ 32 ∷ (decimal count ++ 10 ∷ []))
-
--- a command is refused: its line says so, and the forest stays as it was
+-- a command is refused: its reply says so, and the forest stays as it was
 pub record Refuses (forest : Trees Labelled) (r : Refusal) (reply : List ℕ) (after : Trees Labelled) : Type 0 where
-  pub line : reply ≡ refusal_line r
+  pub text : reply ≡ refused_text r
   pub same : after ≡ forest
 
--- a tree is loaded: its line tells its label and its nodes, and it stands behind the others
-pub record Accepts (forest : Trees Labelled) (t : Tree Kind) (reply : List ℕ) (after : Trees Labelled) : Type 0 where
-  pub line : reply ≡ loaded_line (next_label forest) (nodes (one t))
-  pub loaded : after ≡ load t forest
-
--- why the load of a tree is refused, if it is: it has too many levels, or what the forest says
-abbrev pub tree_refusal : Tree Kind → Trees Labelled → Option Refusal
-tree_refusal t forest = if nat_le (levels (one t)) 200 then load_refusal t forest else Some refusal.Deep
-
-abbrev pub AnswersBy : Option Refusal → Trees Labelled → Tree Kind → List ℕ → Trees Labelled → Type 0
-AnswersBy None forest t reply after = Accepts forest t reply after
-AnswersBy (Some r) forest t reply after = Refuses forest r reply after
-
--- What the load of a tree is answered.
-abbrev pub AnswersTree : Trees Labelled → Tree Kind → List ℕ → Trees Labelled → Type 0
-AnswersTree forest t reply after = AnswersBy (tree_refusal t forest) forest t reply after
-
--- What the load of bytes is answered: they spell a tree, or they spell none.
-abbrev pub AnswersBytes : Trees Labelled → List ℕ → List ℕ → Trees Labelled → Type 0
-AnswersBytes forest bytes reply after =
-    ((t : Tree Kind) × Spells bytes t × AnswersTree forest t reply after) ⊎ (((t : Tree Kind) → ¬ Spells bytes t) × Refuses forest refusal.Xml reply after)
-
--- What a load is answered.
-abbrev pub AnswersLoad : Trees Labelled → Payload → List ℕ → Trees Labelled → Type 0
-AnswersLoad forest (payload.Whole bytes) reply after = AnswersBytes forest bytes reply after
-AnswersLoad forest payload.Long reply after = Refuses forest refusal.Size reply after
-AnswersLoad forest payload.Cut reply after = Refuses forest refusal.Command reply after
-AnswersLoad forest payload.Nothing reply after = Refuses forest refusal.Command reply after
-
--- nothing is answered, and nothing done
-pub record Skips (forest : Trees Labelled) (reply : List ℕ) (after : Trees Labelled) : Type 0 where
-  pub line : reply ≡ []
+-- a command is answered, and the forest stays as it was
+pub record Shows (forest : Trees Labelled) (answer : List ℕ) (reply : List ℕ) (after : Trees Labelled) : Type 0 where
+  pub text : reply ≡ answer
   pub same : after ≡ forest
+
+-- an edit is carried out: its reply tells the label and the number of nodes of its subtree
+pub record Edits (label : List ℤ) (count : ℕ) (edited : Trees Labelled) (reply : List ℕ) (after : Trees Labelled) : Type 0 where
+  pub text : reply ≡ done_text label count
+  pub changed : after ≡ edited
+
+-- ---- edits
+
+-- an edit is refused where there is a cause, and else carried out
+abbrev pub AnswersEdit : Option Refusal → List ℤ → ℕ → Trees Labelled → Trees Labelled → List ℕ → Trees Labelled → Type 0
+AnswersEdit None label count edited forest reply after = Edits label count edited reply after
+AnswersEdit (Some r) label count edited forest reply after = Refuses forest r reply after
+
+-- What an edit with a payload would do in a forest.
+pub record Planned : Type 0 where
+  -- why it is refused whatever tree the payload spells
+  pub target : Option Refusal
+  -- why it is refused with a tree
+  pub refusal : Tree Kind → Option Refusal
+  -- the label that the tree's root would get
+  pub label : List ℤ
+  -- the forest with the tree
+  pub edited : Tree Kind → Trees Labelled
+
+-- the first of two causes
+abbrev pub first : Option Refusal → Option Refusal → Option Refusal
+first None second = second
+first (Some r) second = Some r
+
+-- with a tree: it has too many levels, or what the forest says
+abbrev pub tree_refusal : Planned → Tree Kind → Option Refusal
+tree_refusal plan t = first plan.target (if nat_le (levels (one t)) 200 then plan.refusal t else Some refusal.Deep)
+
+abbrev pub RefusesFirst : Option Refusal → Refusal → Trees Labelled → List ℕ → Trees Labelled → Type 0
+RefusesFirst None other forest reply after = Refuses forest other reply after
+RefusesFirst (Some r) other forest reply after = Refuses forest r reply after
+
+-- What an edit with these bytes is answered: they spell a tree, or they spell none.
+abbrev pub AnswersBytes : Planned → List ℕ → Trees Labelled → List ℕ → Trees Labelled → Type 0
+AnswersBytes plan bytes forest reply after =
+    ((t : Tree Kind) × Spells bytes t × AnswersEdit (tree_refusal plan t) plan.label (nodes (one t)) (plan.edited t) forest reply after)
+    ⊎ (((t : Tree Kind) → ¬ Spells bytes t) × RefusesFirst plan.target refusal.Xml forest reply after)
+
+abbrev pub planned_load : Trees Labelled → Planned
+planned_load forest = record {
+  target = None;
+  refusal = λ t. load_refusal t forest;
+  label = next_label forest;
+  edited = λ t. load t forest;
+}
+
+-- no node has the label, or a text would get a child
+abbrev pub target_refusal : Place → List ℤ → Trees Labelled → Option Refusal
+target_refusal place x forest =
+    if not (has x forest) then Some refusal.Absent else (if is_inside place && is_text (found x forest) then Some refusal.Leaf else None)
+
+abbrev pub planned_insert : Place → List ℤ → Trees Labelled → Planned
+planned_insert place x forest = record {
+  target = target_refusal place x forest;
+  refusal = λ t. insert_refusal place x t forest;
+  label = inserted_label place x forest;
+  edited = λ t. insert place x t forest;
+}
+
+abbrev pub planned_replace : List ℤ → Trees Labelled → Planned
+planned_replace x forest = record {
+  target = delete_refusal x forest;
+  refusal = λ t. replace_refusal x t forest;
+  label = x;
+  edited = λ t. replace x t forest;
+}
+
+-- ---- labels of command lines
+
+-- The text is that of a label, or of none.
+abbrev pub AnswersLabel : List ℕ → (List ℤ → Type 0) → Type 0 → Type 0
+AnswersLabel text Answered Refused = ((x : List ℤ) × IsLabel x × (text_of x ≡ text) × Answered x) ⊎ (IsNoLabelText text × Refused)
+
+-- ---- lines
+
+abbrev pub AnswersLoad : Payload → Trees Labelled → List ℕ → Trees Labelled → Type 0
+AnswersLoad payload.Nothing forest reply after = Refuses forest refusal.Command reply after
+AnswersLoad payload.Cut forest reply after = Refuses forest refusal.Command reply after
+AnswersLoad payload.Long forest reply after = Refuses forest refusal.Size reply after
+AnswersLoad (payload.Whole bytes) forest reply after = AnswersBytes (planned_load forest) bytes forest reply after
+
+abbrev pub AnswersInsert : Place → List ℕ → Payload → Trees Labelled → List ℕ → Trees Labelled → Type 0
+AnswersInsert place text payload.Nothing forest reply after = Refuses forest refusal.Command reply after
+AnswersInsert place text payload.Cut forest reply after = Refuses forest refusal.Command reply after
+AnswersInsert place text payload.Long forest reply after = Refuses forest refusal.Size reply after
+AnswersInsert place text (payload.Whole bytes) forest reply after =
+    AnswersLabel text (λ x. AnswersBytes (planned_insert place x forest) bytes forest reply after) (Refuses forest refusal.Label reply after)
+
+abbrev pub AnswersReplace : List ℕ → Payload → Trees Labelled → List ℕ → Trees Labelled → Type 0
+AnswersReplace text payload.Nothing forest reply after = Refuses forest refusal.Command reply after
+AnswersReplace text payload.Cut forest reply after = Refuses forest refusal.Command reply after
+AnswersReplace text payload.Long forest reply after = Refuses forest refusal.Size reply after
+AnswersReplace text (payload.Whole bytes) forest reply after =
+    AnswersLabel text (λ x. AnswersBytes (planned_replace x forest) bytes forest reply after) (Refuses forest refusal.Label reply after)
+
+abbrev pub AnswersDelete : List ℕ → Trees Labelled → List ℕ → Trees Labelled → Type 0
+AnswersDelete text forest reply after =
+    AnswersLabel text (λ x. AnswersEdit (delete_refusal x forest) x (told (subtree_size x forest)) (delete x forest) forest reply after) (Refuses forest refusal.Label reply after)
+
+abbrev pub AnswersFound : Option (Tree Labelled) → Trees Labelled → List ℕ → Trees Labelled → Type 0
+AnswersFound None forest reply after = Refuses forest refusal.Absent reply after
+AnswersFound (Some t) forest reply after = Shows forest (tree_text t) reply after
+
+abbrev pub AnswersShow : List ℕ → Trees Labelled → List ℕ → Trees Labelled → Type 0
+AnswersShow text forest reply after = AnswersLabel text (λ x. AnswersFound (found x forest) forest reply after) (Refuses forest refusal.Label reply after)
+
+-- the labels that a search finds
+abbrev pub answers : Find → List (List ℕ) → Trees Labelled → List (List ℤ)
+answers find.Slca query forest = slca query (worded forest)
+
+-- A search whose words are a query, or aren't.
+abbrev pub AnswersQuery : Option QueryError → List (List ℤ) → Trees Labelled → List ℕ → Trees Labelled → Type 0
+AnswersQuery None labels forest reply after = Shows forest (hits_text (hits_of forest labels)) reply after
+AnswersQuery (Some query.NoWords) labels forest reply after = Refuses forest refusal.Words reply after
+AnswersQuery (Some (query.TooMany found)) labels forest reply after = Refuses forest refusal.Many reply after
+AnswersQuery (Some (query.TooLong bytes)) labels forest reply after = Refuses forest refusal.Long reply after
+AnswersQuery (Some query.Memory) labels forest reply after = ⊥
+
+abbrev pub AnswersSearch : Find → List ℕ → Trees Labelled → List ℕ → Trees Labelled → Type 0
+AnswersSearch find text forest reply after = AnswersQuery (query_refusal (query_words text)) (answers find (query_words text) forest) forest reply after
+
+-- What a line with its payload is answered.
+abbrev pub AnswersLine : Line → Payload → Trees Labelled → List ℕ → Trees Labelled → Type 0
+AnswersLine line.Blank payload forest reply after = Shows forest [] reply after
+AnswersLine line.Load payload forest reply after = AnswersLoad payload forest reply after
+AnswersLine (line.Insert place label) payload forest reply after = AnswersInsert place label payload forest reply after
+AnswersLine (line.Delete label) payload forest reply after = AnswersDelete label forest reply after
+AnswersLine (line.Replace label) payload forest reply after = AnswersReplace label payload forest reply after
+AnswersLine (line.Search find text) payload forest reply after = AnswersSearch find text forest reply after
+AnswersLine (line.Show label) payload forest reply after = AnswersShow label forest reply after
+AnswersLine line.Quit payload forest reply after = Shows forest [] reply after
 
 abbrev pub AnswersForm : Form → Payload → Trees Labelled → List ℕ → Trees Labelled → Type 0
-AnswersForm form.Load payload forest reply after = AnswersLoad forest payload reply after
-AnswersForm form.Blank payload forest reply after = Skips forest reply after
-AnswersForm form.Quit payload forest reply after = Skips forest reply after
-AnswersForm form.Unknown payload forest reply after = Refuses forest refusal.Command reply after
+AnswersForm None payload forest reply after = Refuses forest refusal.Command reply after
+AnswersForm (Some line) payload forest reply after = AnswersLine line payload forest reply after
 
 -- What a command is answered in a forest, and the forest after it.
 unfoldable pub Answers : Trees Labelled → Command → List ℕ → Trees Labelled → Type 0

@@ -2,10 +2,9 @@
 use Rattle.std.specs.Prelude.{ℕ, Bool, if◌then◌else◌, nat_lt, List, [], ◌∷◌, ◌++◌, length, take, Some, None}
 use Rattle.std.specs.declared.option.Option.{Option}
 use Rattle.mm_run.specs.declared.command.Command.{Command}
-use Rattle.mm_run.specs.declared.command.Form.{Form}
 use Rattle.mm_run.specs.declared.command.Payload.TheVariants.{Nothing, Cut}
 use Rattle.mm_run.specs.Lines.{lines}
-use Rattle.mm_run.specs.Forms.{form_of, takes_payload, quits}
+use Rattle.mm_run.specs.Forms.{Form, form_of, takes_payload, quits}
 use Rattle.mm_run.specs.Payloads.{closes, payload_of}
 
 -- a command whose payload has begun, and the payload's lines so far

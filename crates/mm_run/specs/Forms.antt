@@ -1,53 +1,44 @@
--- What a command line asks for.
-use Rattle.std.specs.Prelude.{ℕ, Bool, true, false, if◌then◌else◌, ◌==◌, nat_le, List, [], ◌∷◌, length, codes}
-use Rattle.std.specs.Str.{bytes_eq}
-use Rattle.std.specs.Io.BufRead.{strip_last}
-use Rattle.mm_run.specs.declared.command.Form.{Form}
-use Rattle.mm_run.specs.declared.command.Form.TheVariants.{Blank, Load, Quit, Unknown}
+-- What a command line asks for, and what follows it.
+use Rattle.std.specs.Prelude.{ℕ, Bool, true, false, List}
+use Rattle.std.specs.declared.option.Option.{Option}
+use Rattle.std.specs.declared.option.Option.TheVariants.{Some, None}
+use Rattle.mm_command.specs.declared.line.Line.{Line}
+use Rattle.mm_command.specs.declared.line.Line.TheVariants.{Blank, Load, Insert, Delete, Replace, Search, Show, Quit}
+use Rattle.mm_command.specs.Lines.{line_of}
 
--- how many bytes a command line has at most, without its end
-abbrev pub line_limit : ℕ
-line_limit = 65536
+-- what a line asks for, or None where it is in no form
+abbrev pub Form : Type 0
+Form = Option Line
 
--- a line without the spaces in front of it
-abbrev pub after_spaces : List ℕ → List ℕ
-after_spaces [] = []
-after_spaces (b ∷ line) = if b == 32 then after_spaces line else b ∷ line
+abbrev pub form_of : List ℕ → Form
+form_of = line_of
 
--- a byte before a line, unless it is a space before nothing
-abbrev pub onto_unless_space : ℕ → List ℕ → List ℕ
-onto_unless_space b [] = if b == 32 then [] else b ∷ []
-onto_unless_space b (c ∷ line) = b ∷ c ∷ line
+-- a payload follows the line
+abbrev pub has_payload : Line → Bool
+has_payload Blank = false
+has_payload Load = true
+has_payload (Insert place label) = true
+has_payload (Delete label) = false
+has_payload (Replace label) = true
+has_payload (Search find text) = false
+has_payload (Show label) = false
+has_payload Quit = false
 
--- a line without the spaces at its end
-abbrev pub before_spaces : List ℕ → List ℕ
-before_spaces [] = []
-before_spaces (b ∷ line) = onto_unless_space b (before_spaces line)
-
--- a word that stands alone on its line
-abbrev pub form_of_word : List ℕ → Form
-form_of_word word =
-    if bytes_eq word [] then Blank
-    else if bytes_eq word (codes "load") then Load
-    else if bytes_eq word (codes "quit") then Quit
-    else Unknown
-
--- A line loses one carriage return (13) at its end, and then the spaces at both ends.
-unfoldable pub form_of : List ℕ → Form
-form_of line =
-    let text = strip_last 13 line in
-    if nat_le (length text) line_limit then form_of_word (before_spaces (after_spaces text)) else Unknown
-
--- a payload follows
 abbrev pub takes_payload : Form → Bool
-takes_payload Load = true
-takes_payload Blank = false
-takes_payload Quit = false
-takes_payload Unknown = false
+takes_payload None = false
+takes_payload (Some line) = has_payload line
 
--- the run ends
+-- the line ends the run
+abbrev pub ends_run : Line → Bool
+ends_run Blank = false
+ends_run Load = false
+ends_run (Insert place label) = false
+ends_run (Delete label) = false
+ends_run (Replace label) = false
+ends_run (Search find text) = false
+ends_run (Show label) = false
+ends_run Quit = true
+
 abbrev pub quits : Form → Bool
-quits Quit = true
-quits Load = false
-quits Blank = false
-quits Unknown = false
+quits None = false
+quits (Some line) = ends_run line

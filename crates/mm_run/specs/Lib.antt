@@ -6,4 +6,5 @@ pub mod Buffer
 pub mod Input
 pub mod Step
 pub mod Answers
+pub mod Edits
 pub mod Run

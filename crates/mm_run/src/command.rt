@@ -2,6 +2,7 @@
 
 ghost use Rattle.std.specs.Prelude.{◌≡◌, ◌≤◌, ◌^◌, length, vec_len};
 
+use mm_command::Line;
 use std::marker::Model;
 
 /// How many bytes a payload has at most.
@@ -41,17 +42,6 @@ impl Body {
     }
 }
 
-/// What a command line asks for.
-#[derive(Clone, Copy, Debug, PartialEq, Eq)]
-pub enum Form {
-    /// A line without words. It is skipped.
-    Blank,
-    Load,
-    Quit,
-    /// A line in no form.
-    Unknown,
-}
-
 /// What follows a command line.
 #[derive(Debug, Drop)]
 pub enum Payload {
@@ -66,8 +56,9 @@ pub enum Payload {
 }
 
 /// A command with its payload.
-#[derive(Debug, Drop)]
+#[derive(Drop)]
 pub struct Command {
-    pub form: Form,
+    /// What its line asks for, or None where the line is in no form.
+    pub form: Option<Line>,
     pub payload: Payload,
 }

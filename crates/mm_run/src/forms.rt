@@ -1,12 +1,10 @@
 // What a command line asks for.
-ghost use Rattle.std.specs.Prelude.{◌≡◌};
+ghost use Rattle.std.specs.Prelude.{◌≡◌, IfOk};
 ghost use Rattle.std.specs.Io.BufRead.{strip_last};
-ghost use Rattle.mm_run.specs.Forms.{after_spaces, before_spaces, form_of_word, form_of, takes_payload, quits};
+ghost use Rattle.mm_run.specs.Forms.{form_of, has_payload, takes_payload, ends_run, quits};
 
-use crate::command::Form;
-
-/// How many bytes a command line has at most, without its end.
-const LINE_LIMIT: usize = 65_536;
+use mm_command::{Line, LineError, read_line};
+use std::alloc::{AllocError, Global};
 
 /// A line without one carriage return at its end.
 pub fn without_return(line: &[u8]) -> &[u8]
@@ -18,72 +16,58 @@ pub fn without_return(line: &[u8]) -> &[u8]
     }
 }
 
-fn after_spaces(line: &[u8]) -> &[u8]
-    ensures { result.now ≡ after_spaces line.now }
+/// What a command line asks for, or None where it is in no form.
+pub fn form_of(alloc: Global, line: &[u8]) -> Result<Option<Line>, AllocError>
+    ensures { IfOk result (λ form. form ≡ form_of line.now) }
 {
-    let mut rest = line;
-    while let [b' ', more @ ..] = rest {
-        rest = more;
-    }
-    rest
-}
-
-fn before_spaces(line: &[u8]) -> &[u8]
-    ensures { result.now ≡ before_spaces line.now }
-{
-    let mut rest = line;
-    while let Some((last, more)) = rest.split_last() {
-        if *last != b' ' {
-            break;
-        }
-        rest = more;
-    }
-    rest
-}
-
-fn form_of_word(word: &[u8]) -> Form
-    ensures { result ≡ form_of_word word.now }
-{
-    if word == b"".as_slice() {
-        Form::Blank
-    } else if word == b"load".as_slice() {
-        Form::Load
-    } else if word == b"quit".as_slice() {
-        Form::Quit
-    } else {
-        Form::Unknown
+    match read_line(alloc, line) {
+        Ok(line) => Ok(Some(line)),
+        Err(LineError::NotACommand) => Ok(None),
+        Err(LineError::Memory) => Err(AllocError),
     }
 }
 
-/// What a command line asks for.
-#[tactic(auto, unfolding(crate::specs::Forms::form_of))]
-pub fn form_of(line: &[u8]) -> Form
-    ensures { result ≡ form_of line.now }
+fn has_payload(line: &Line) -> bool
+    ensures { result ≡ has_payload line.now }
 {
-    let text = without_return(line);
-    if text.len() <= LINE_LIMIT {
-        form_of_word(before_spaces(after_spaces(text)))
-    } else {
-        Form::Unknown
+    match line {
+        Line::Load | Line::Insert { .. } | Line::Replace { .. } => true,
+        Line::Blank | Line::Delete { .. } | Line::Search { .. } | Line::Show { .. } | Line::Quit =>
+            false,
     }
 }
 
 /// Whether a payload follows.
-pub fn takes_payload(form: Form) -> bool
-    ensures { result ≡ takes_payload form }
+pub fn takes_payload(form: &Option<Line>) -> bool
+    ensures { result ≡ takes_payload form.now }
 {
     match form {
-        Form::Load => true,
-        Form::Blank | Form::Quit | Form::Unknown => false,
+        None => false,
+        Some(line) => has_payload(line),
+    }
+}
+
+fn ends_run(line: &Line) -> bool
+    ensures { result ≡ ends_run line.now }
+{
+    match line {
+        Line::Quit => true,
+        Line::Blank
+        | Line::Load
+        | Line::Insert { .. }
+        | Line::Delete { .. }
+        | Line::Replace { .. }
+        | Line::Search { .. }
+        | Line::Show { .. } => false,
     }
 }
 
 /// Whether the run ends.
-pub fn quits(form: Form) -> bool
-    ensures { result ≡ quits form }
+pub fn quits(form: &Option<Line>) -> bool
+    ensures { result ≡ quits form.now }
 {
     match form {
-        Form::Quit => true,
-        Form::Blank | Form::Load | Form::Unknown => false,
+        None => false,
+        Some(line) => ends_run(line),
     }
 }

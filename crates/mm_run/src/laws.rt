@@ -5,6 +5,7 @@ ghost use Rattle.mm_tree.specs.Numbering.{Labelled};
 ghost use Rattle.mm_run.specs.declared.command.Command.{Command};
 ghost use Rattle.mm_run.specs.Answers.{Replies};
 
+use mm_label::laws::one_text;
 use mm_xml::laws::one_tree;
 
 /// In a forest, commands have at most one list of replies, and leave at most one forest.
@@ -12,5 +13,6 @@ pub fn one_reply()
     ensures { (forest : Trees Labelled) (commands : List Command) (replies replies' : List ℕ) (after after' : Trees Labelled)
         → Replies forest commands replies after → Replies forest commands replies' after' → (replies ≡ replies') × (after ≡ after') }
 {
-    one_tree()
+    one_tree();
+    one_text();
 }

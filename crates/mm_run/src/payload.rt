@@ -7,10 +7,11 @@ ghost use Rattle.mm_run.specs.Payloads.{closes, unstopped, joined, ended_rows, p
 ghost use Rattle.mm_run.specs.Step.{HasSourceCause, EndsRow, GivesRow, GivesNext};
 
 use crate::buffer::Buffer;
-use crate::command::{Body, Command, Form, PAYLOAD_LIMIT, Payload};
+use crate::command::{Body, Command, PAYLOAD_LIMIT, Payload};
 use crate::forms::without_return;
 use crate::line::{Ending, ReadError, read_line};
 use crate::reading::Next;
+use mm_command::Line;
 use mm_host::Source;
 use std::alloc::{AllocError, Global};
 
@@ -128,7 +129,7 @@ fn skip_payload<S: Source>(
     alloc: Global,
     source: &mut S,
     buffer: &mut Buffer,
-    form: Form,
+    form: Option<Line>,
 ) -> Result<Next, ReadError>
     requires { quits form ≡ false }
     ensures next { (rows : List (List ℕ)) → payload_limit < length (joined rows)
@@ -165,7 +166,7 @@ pub fn next_payload<S: Source>(
     alloc: Global,
     source: &mut S,
     buffer: &mut Buffer,
-    form: Form,
+    form: Option<Line>,
 ) -> Result<Next, ReadError>
     requires { quits form ≡ false }
     ensures next { GivesNext (Some (record { form = form; rows = [] })) (rest (S.left source.old) buffer.old) (rest (S.left source.new) buffer.new) (reach buffer.old) (reach buffer.new) result }

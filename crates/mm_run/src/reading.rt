@@ -1,6 +1,6 @@
 // Commands, cut from an input.
-ghost use Rattle.std.specs.Prelude.{◌≡◌, [], Err, None};
-ghost use Rattle.mm_run.specs.declared.line.ReadError.TheVariants.{Source};
+ghost use Rattle.std.specs.Prelude.{◌≡◌, [], Err, None, IfOk, IfErr};
+ghost use Rattle.mm_run.specs.declared.line.ReadError.TheVariants.{Source, Memory};
 ghost use Rattle.mm_run.specs.Input.{rest, reach};
 ghost use Rattle.mm_run.specs.Step.{HasSourceCause, GivesNext, IsLast};
 
@@ -16,7 +16,7 @@ use std::alloc::Global;
 const LINE_KEPT: usize = 65_538;
 
 /// What comes next.
-#[derive(Debug, Drop)]
+#[derive(Drop)]
 pub enum Next {
     Command(Command),
     /// The end of the input ends it.
@@ -28,19 +28,22 @@ pub enum Next {
 }
 
 /// The command on a line that the end of the input ends.
-fn last_command(line: &[u8]) -> Next
-    ensures { IsLast line.now result }
+fn last_command(alloc: Global, line: &[u8]) -> Result<Next, ReadError>
+    ensures last { IfOk result (λ next. IsLast line.now next) }
+    ensures memory { IfErr result (λ e. e ≡ Memory) }
 {
     if line.is_empty() {
-        return Next::End;
+        return Ok(Next::End);
     }
-    let form = form_of(line);
-    let payload = if takes_payload(form) {
+    let Ok(form) = form_of(alloc, line) else {
+        return Err(ReadError::Memory);
+    };
+    let payload = if takes_payload(&form) {
         Payload::Cut
     } else {
         Payload::Nothing
     };
-    Next::Last(Command { form, payload })
+    Ok(Next::Last(Command { form, payload }))
 }
 
 /// Reads a command.
@@ -57,12 +60,14 @@ pub fn next_command<S: Source>(
     match read_line(source, buffer, &mut line, LINE_KEPT) {
         Err(error) => Err(error),
         Ok(Ending::Full) => Ok(Next::Full),
-        Ok(Ending::Input) => Ok(last_command(&line)),
+        Ok(Ending::Input) => last_command(alloc, &line),
         Ok(Ending::Feed) => {
-            let form = form_of(&line);
-            if quits(form) {
+            let Ok(form) = form_of(alloc, &line) else {
+                return Err(ReadError::Memory);
+            };
+            if quits(&form) {
                 Ok(Next::Quit)
-            } else if takes_payload(form) {
+            } else if takes_payload(&form) {
                 next_payload(alloc, source, buffer, form)
             } else {
                 let payload = Payload::Nothing;

@@ -29,7 +29,7 @@ fn reply<W: Sink>(
 {
     match answer(alloc, forest, command) {
         Err(_) => Err(Status::Memory),
-        Ok(text) => match write_all(sink, text.as_bytes()) {
+        Ok(reply) => match write_all(sink, reply.as_slice()) {
             Err(_) => Err(Status::SinkFault),
             Ok(()) => Ok(()),
         },

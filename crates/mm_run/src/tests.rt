@@ -124,6 +124,8 @@ fn lines_and_payloads_are_answered(rt: HostRuntime) -> Result<(), Fail> {
         // The lines of a payload are joined by line feeds, with none at the end.
         (b"load\n<a\n/>\n.\n", b"no 19 xml\n"),
         (b"load\n.\n", b"no 19 xml\n"),
+        // A text is no tree of a forest.
+        (b"load\nagain\n.\n", b"no 20 top\n"),
         // A refusal leaves the forest as it was.
         (b"load\n<a>\n.\nload\n<a/>\n.\n", b"no 19 xml\nok 1 1\n"),
         // The end of the input cuts a payload.
@@ -278,5 +280,155 @@ fn streams_of_single_bytes_are_read_and_written_whole(rt: HostRuntime) -> Result
     let number = run_with(alloc, &words, &mut source, &mut sink);
     assert_eq!(rt; number, 0);
     assert_eq!(rt; sink.sink.bytes(), b"ok 1 2\nno 10 command\n".as_slice());
+    Ok(())
+}
+
+/// The bibliography of two books, as one payload.
+const LOAD_BOOKS: &[u8] =
+    b"load\n<bib><book><title>XML search</title><author>Liu</author></book><book><title>Keyword search</title><author>Chen</author></book></bib>\n.\n";
+
+/// A run over the bibliography and then this input ends with status 0 and writes, behind the reply to
+/// the load, this.
+fn expect_on_books<R: Abort>(
+    rt: &R,
+    alloc: Global,
+    input: &[u8],
+    written: &[u8],
+) -> Result<(), AllocError> {
+    let mut all = Vec::from_slice(alloc, b"ok 1 11\n")?;
+    all.extend_from_slice(written)?;
+    expect_replies(rt, alloc, &[(LOAD_BOOKS, 1), (input, 1)], &all)
+}
+
+#[test]
+fn smallest_answers_are_found(rt: HostRuntime) -> Result<(), Fail> {
+    let table = [
+        (
+            b"slca search liu\n".as_slice(),
+            b"hits 1\n1.1 book\n".as_slice(),
+        ),
+        (b"slca search\n", b"hits 2\n1.1.1.1 #text\n1.3.1.1 #text\n"),
+        (b"slca liu chen\n", b"hits 1\n1 bib\n"),
+        (b"slca Search SEARCH liu\n", b"hits 1\n1.1 book\n"),
+        (b"slca  absent   liu \n", b"hits 0\n"),
+        (b"slca\n", b"no 14 words\n"),
+        (b"slca ;\n", b"no 14 words\n"),
+        (b"slca<author\n", b"no 10 command\n"),
+    ];
+    for (input, written) in table {
+        expect_on_books(&rt, rt.alloc(), input, written)?;
+    }
+    Ok(())
+}
+
+#[test]
+fn documents_are_searched_apart(rt: HostRuntime) -> Result<(), Fail> {
+    expect_replies(
+        &rt,
+        rt.alloc(),
+        &[(
+            b"load\n<a>xml</a>\n.\nload\n<b>liu</b>\n.\nslca xml liu\nslca b liu\n",
+            1,
+        )],
+        b"ok 1 2\nok 3 2\nhits 0\nhits 1\n3 b\n",
+    )?;
+    Ok(())
+}
+
+#[test]
+fn queries_end_at_their_limits(rt: HostRuntime) -> Result<(), Fail> {
+    let words =
+        b"slca a b c d e f g h i j k l m n o p q r s t u v w x y z aa bb cc dd ee ff".as_slice();
+    for (more, written) in [
+        (b"\n".as_slice(), b"ok 1 1\nhits 0\n".as_slice()),
+        (b" A gg\n", b"ok 1 1\nno 15 many\n"),
+    ] {
+        let input = [(b"load\n<q/>\n.\n".as_slice(), 1), (words, 1), (more, 1)];
+        expect_replies(&rt, rt.alloc(), &input, written)?;
+    }
+    for (letters, written) in [(256, b"hits 0\n".as_slice()), (257, b"no 16 long\n")] {
+        let input = [(b"slca ".as_slice(), 1), (b"x", letters), (b"\n", 1)];
+        expect_replies(&rt, rt.alloc(), &input, written)?;
+    }
+    Ok(())
+}
+
+#[test]
+fn labels_never_move(rt: HostRuntime) -> Result<(), Fail> {
+    let table = [
+        (
+            b"insert after 1.1\n<x/>\n.\ninsert after 1.1\n<x/>\n.\ninsert after 1.2.1\n<x/>\n.\ninsert before 1.1\n<x/>\n.\n".as_slice(),
+            b"ok 1.2.1 1\nok 1.2.-1 1\nok 1.2.3 1\nok 1.-1 1\n".as_slice(),
+        ),
+        // A label that was deleted may be given again.
+        (
+            b"delete 1.1\nshow 1.1\ninsert before 1.3\n<y/>\n.\nslca search\n",
+            b"ok 1.1 5\nno 17 absent\nok 1.1 1\nhits 1\n1.3.1.1 #text\n",
+        ),
+        (
+            b"insert last 1.1.1\nagain\n.\nshow 1.1.1\n",
+            b"ok 1.1.1.3 1\ntree 1.1.1 3\n<title>XML searchagain</title>\n",
+        ),
+        (
+            b"replace 1.3\n<x>y</x>\n.\nshow 1\n",
+            b"ok 1.3 2\ntree 1 8\n<bib><book><title>XML search</title><author>Liu</author></book><x>y</x></bib>\n",
+        ),
+        (b"insert first 1\n<x/>\n.\n", b"ok 1.-1 1\n"),
+    ];
+    for (input, written) in table {
+        expect_on_books(&rt, rt.alloc(), input, written)?;
+    }
+    Ok(())
+}
+
+#[test]
+fn the_first_cause_is_told(rt: HostRuntime) -> Result<(), Fail> {
+    let table = [
+        (
+            b"show 1.2\nshow 01\n".as_slice(),
+            b"no 13 label\nno 13 label\n".as_slice(),
+        ),
+        (b"delete x\ndelete 1.7\n", b"no 13 label\nno 17 absent\n"),
+        (b"insert first 1.1.1.1\n<x>\n.\n", b"no 18 leaf\n"),
+        (b"insert before 1.7\n<x>\n.\n", b"no 17 absent\n"),
+        (b"insert before x\n<x>\n.\n", b"no 13 label\n"),
+        (b"insert before 1.1\n<x>\n.\n", b"no 19 xml\n"),
+        (b"replace 1.7\n<x>\n.\n", b"no 17 absent\n"),
+        (
+            b"insert before 1\nhello\n.\nreplace 1\nhello\n.\n",
+            b"no 20 top\nno 20 top\n",
+        ),
+        (b"load\nhello\n.\nload\n \n.\n", b"no 20 top\nno 19 xml\n"),
+        (b"load\n<a><b></a>\n.\n", b"no 19 xml\n"),
+        (
+            b"insert middle 1\nfrob\n",
+            b"no 10 command\nno 10 command\n",
+        ),
+        (b"insert before x\n<x/>", b"no 10 command\n"),
+    ];
+    for (input, written) in table {
+        expect_on_books(&rt, rt.alloc(), input, written)?;
+    }
+    Ok(())
+}
+
+#[test]
+fn a_payload_keeps_its_lines(rt: HostRuntime) -> Result<(), Fail> {
+    expect_replies(
+        &rt,
+        rt.alloc(),
+        &[(b"load\n<a>\n..x\n</a>\n.\nshow 1\n", 1)],
+        b"ok 1 2\ntree 1 2\n<a>&#10;.x&#10;</a>\n",
+    )?;
+    Ok(())
+}
+
+/// The sink fails at its second write: the reply to the load stands, and that of the search doesn't.
+#[test]
+fn a_sink_fails_at_the_reply_of_a_search(rt: HostRuntime) -> Result<(), Fail> {
+    let bytes = joined(rt.alloc(), &[(LOAD_BOOKS, 1), (b"slca search\n", 1)])?;
+    let got = run_over(rt.alloc(), bytes, 0, &[], &[2])?;
+    assert_eq!(rt; got.number, 3);
+    assert_eq!(rt; got.written.as_slice(), b"ok 1 11\n".as_slice());
     Ok(())
 }

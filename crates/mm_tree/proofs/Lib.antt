@@ -15,3 +15,6 @@ pub mod OpenFacts
 pub mod SizeFacts
 pub mod EditFacts
 pub mod TestFacts
+pub mod FlagFacts
+pub mod SearchFacts
+pub mod SmallestLaws

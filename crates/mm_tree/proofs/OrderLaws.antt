@@ -79,11 +79,11 @@ pub rises_more : (left : Option (List ℤ)) (s t : List ℤ) → rises left s �
 rises_more None s t a b = refl
 rises_more (Some l) s t a b = ap is_lt ((lists_total int_cmp_total).trans l s t (before_is l s a) (before_is s t b))
 
-abbrev Each : {X : Type 0} → (X → Type 0) → List X → Type 0
+abbrev pub Each : {X : Type 0} → (X → Type 0) → List X → Type 0
 Each P [] = Unit {0}
 Each P (x ∷ xs) = P x × Each P xs
 
-each_behind : {X : Type 0} (P : X → Type 0) (xs ys : List X) → Each P xs → Each P ys → Each P (xs ++ ys)
+pub each_behind : {X : Type 0} (P : X → Type 0) (xs ys : List X) → Each P xs → Each P ys → Each P (xs ++ ys)
 each_behind P [] ys a b = b
 each_behind P (x ∷ xs) ys a b = (a.0, each_behind P xs ys a.1 b)
 
@@ -111,20 +111,20 @@ all_under y left (node e inner rest) l =
 
 -- ---- the order
 
-abbrev Rise : List (List ℤ) → Type 0
+abbrev pub Rise : List (List ℤ) → Type 0
 Rise [] = Unit {0}
 Rise (x ∷ xs) = Each (IsBefore x) xs × Rise xs
 
-rise_behind : (xs ys : List (List ℤ)) → Rise xs → Rise ys → Each (λ x. Each (IsBefore x) ys) xs → Rise (xs ++ ys)
+pub rise_behind : (xs ys : List (List ℤ)) → Rise xs → Rise ys → Each (λ x. Each (IsBefore x) ys) xs → Rise (xs ++ ys)
 rise_behind [] ys a b c = b
 rise_behind (x ∷ xs) ys a b c = (each_behind (IsBefore x) xs ys a.0 c.0, rise_behind xs ys a.1 b c.1)
 
-pairs_from : (xs : List (List ℤ)) → Rise xs → AllPairs IsBefore xs
+pub pairs_from : (xs : List (List ℤ)) → Rise xs → AllPairs IsBefore xs
 pairs_from [] a = λ i j d h k. absurd (omega arith)
 pairs_from (x ∷ xs) a = AllPairs-cons IsBefore x xs (all_from (IsBefore x) xs a.0) (pairs_from xs a.1)
 
 -- a label below a node comes after the node's
-below_after : (y : List ℤ) (x : List ℤ) → Under y None x → IsBefore y x
+pub below_after : (y : List ℤ) (x : List ℤ) → Under y None x → IsBefore y x
 below_after y x u = by_segment u.segment u.more u.is u.whole
   where
     by_segment : (s m : List ℤ) → x ≡ y ++ (s ++ m) → is_segment s ≡ true → IsBefore y x
@@ -132,7 +132,7 @@ below_after y x u = by_segment u.segment u.more u.is u.whole
     by_segment (c ∷ s) m e w = subst (λ (z : List ℤ). IsBefore y z) (sym e) (prefix_first y c (s ++ m))
 
 -- labels at or below a sibling come before those at or below a later one
-side_after : (y s m x : List ℤ) → is_segment s ≡ true → Under y (Some s) x → IsBefore (y ++ (s ++ m)) x
+pub side_after : (y s m x : List ℤ) → is_segment s ≡ true → Under y (Some s) x → IsBefore (y ++ (s ++ m)) x
 side_after y s m x w u =
     subst (λ (z : List ℤ). IsBefore (y ++ (s ++ m)) z) (sym u.is) (front_same y (s ++ m) (u.segment ++ u.more) ∙ apart s u.segment m u.more w u.whole (before_is s u.segment u.above))
 

@@ -70,7 +70,7 @@ one_segment (c ∷ cs) (d ∷ ds) m n p q e =
     by_test true (c ∷ cs) ds p q f = absurd cc
     by_test false cs ds p q f = f p q
 
-cancel : (y a b : List ℤ) → y ++ a ≡ y ++ b → a ≡ b
+pub cancel : (y a b : List ℤ) → y ++ a ≡ y ++ b → a ≡ b
 cancel [] a b e = e
 cancel (c ∷ y) a b e = cancel y a b cc
 

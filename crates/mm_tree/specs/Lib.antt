@@ -8,6 +8,10 @@ pub mod Order
 pub mod Edits
 pub mod Ways
 pub mod Untouched
+pub mod Hits
 pub mod Search
+pub mod Smallest
+pub mod Searching
+pub mod Found
 pub mod Examples
 pub mod EditExamples

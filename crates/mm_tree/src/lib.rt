@@ -5,15 +5,21 @@
 #![tactic(auto)]
 
 mod forest;
+mod hit;
 pub mod laws;
 mod measure;
 mod node;
+mod own;
 mod plain;
 mod refusal;
+mod search;
 mod text;
 
 pub use forest::{Done, Forest, Place};
+pub use hit::{Hit, Hits};
 pub use node::{Node, Nodes};
+pub use own::own_words;
 pub use plain::{Attribute, Attributes, Kind, Plain, Plains};
 pub use refusal::{Refusal, TreeError};
+pub use search::slca;
 pub use text::Text;

@@ -9,3 +9,4 @@ pub mod Productions
 pub mod Valid
 pub mod Answered
 pub mod WriterFacts
+pub mod Forms

@@ -9,7 +9,7 @@ use Rattle.mm_tree.specs.Characters.{is_space}
 use Rattle.mm_tree.specs.Trees.{Trees, none, node, Tree, one}
 use Rattle.mm_xml.specs.declared.token.Tag.{Tag}
 use Rattle.mm_xml.specs.declared.token.Tag.TheVariants.{Open, Empty, Close}
-use Rattle.mm_xml.specs.Grammar.{Token, Tagged, Char, is_name, is_text_char, spelled, spelled_tag, Bracket, Begin, End, name_of, text_brackets, tag_brackets, brackets, bracketing, IsBareOutside, Spells, SpellsContent, behind_text, EndsText}
+use Rattle.mm_xml.specs.Grammar.{Token, Tagged, Char, is_name, is_text_char, spelled, spelled_tag, Bracket, Begin, End, name_of, text_brackets, tag_brackets, brackets, bracketing, IsBareOutside, SpellsElement, SpellsContent, behind_text, EndsText}
 use Rattle.mm_xml.specs.Reading.{◌>>=◌, Frame, State, Before, Inside, After, depth_of, fresh, with_child, frame_tree, closed, place_all, finished}
 use Rattle.mm_xml.proofs.Options.{bind_some, some, some_is}
 use Rattle.mm_xml.proofs.Ascii.{text_same}
@@ -167,7 +167,7 @@ bare_inside (Tagged tag name ∷ ys) f fs run g gs e =
 abbrev element_of : List ℕ → Kind
 element_of name = Element (encode_utf8_all name) []
 
-pub empty_element : (name : List ℕ) → IsTrue (is_name name) → Spells (spelled_tag Empty (encode_utf8_all name)) (element_of name, none)
+pub empty_element : (name : List ℕ) → IsTrue (is_name name) → SpellsElement (spelled_tag Empty (encode_utf8_all name)) (element_of name, none)
 empty_element name h = (Tagged Empty name ∷ [], record { each = (h, tt); spelled_so = sym (append_none (spelled_tag Empty (encode_utf8_all name))); bare = tt; tree_is = refl })
   where
     append_none : (xs : List ℕ) → xs ++ [] ≡ xs
@@ -175,7 +175,7 @@ empty_element name h = (Tagged Empty name ∷ [], record { each = (h, tt); spell
     append_none (x ∷ xs) = ap (λ ys. x ∷ ys) (append_none xs)
 
 pub element : (name content : List ℕ) (children : Trees Kind) → IsTrue (is_name name) → SpellsContent content children
-    → Spells (spelled_tag Open (encode_utf8_all name) ++ (content ++ spelled_tag Close (encode_utf8_all name))) (element_of name, children)
+    → SpellsElement (spelled_tag Open (encode_utf8_all name) ++ (content ++ spelled_tag Close (encode_utf8_all name))) (element_of name, children)
 element name content children h c =
     let ys = c.0 in
     let last = Tagged Close name ∷ [] in
@@ -231,7 +231,7 @@ leads_behind xs t e =
     let b = bind_some (place_all Before (brackets [] xs)) finished t (ap (λ ps. build Before ps) e ∙ build_full t) in
     b.1 ∙ ap some (finished_is b.0 t b.2)
 
-pub element_in_content : (bytes content : List ℕ) (t : Tree Kind) (children : Trees Kind) → Spells bytes t → SpellsContent content children → SpellsContent (bytes ++ content) (node t.0 t.1 children)
+pub element_in_content : (bytes content : List ℕ) (t : Tree Kind) (children : Trees Kind) → SpellsElement bytes t → SpellsContent content children → SpellsContent (bytes ++ content) (node t.0 t.1 children)
 element_in_content bytes content t children s c =
     let xs = s.0 in
     let ys = c.0 in (

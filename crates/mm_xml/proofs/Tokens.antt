@@ -194,16 +194,16 @@ text_len (c ∷ cs) rest h stop =
     let w = both (is_text_char c) (list_all is_text_char cs) h in
     rw (w.0, text_len cs rest w.1 stop) (omega arith)
 
-not_open : (c : ℕ) → is_text_char c ≡ true → eqb c 60 ≡ false
+pub not_open : (c : ℕ) → is_text_char c ≡ true → eqb c 60 ≡ false
 not_open c h = elim (eqb c 60) as (λ b. eqb c 60 ≡ b → b ≡ false) [ true ↦ λ e. absurd (less c (eqb-true c 60 e) h) | false ↦ λ e. refl ] refl
   where
     less : (c : ℕ) → c ≡ 60 → is_text_char c ≡ true → ⊥
     less c e h = let k : is_text_char 60 ≡ true = subst (λ (n : ℕ). is_text_char n ≡ true) e h in cc
 
-abbrev split_run : List ℕ → ℕ → Found
+abbrev pub split_run : List ℕ → ℕ → Found
 split_run bytes n = cond (eqb n 0) None (Some (Run (take n bytes), drop n bytes))
 
-run_at_is : (bytes : List ℕ) → run_at bytes ≡ split_run bytes (prefix_len is_text_char bytes)
+pub run_at_is : (bytes : List ℕ) → run_at bytes ≡ split_run bytes (prefix_len is_text_char bytes)
 unfolding run_at
 run_at_is bytes = refl
 

@@ -16,14 +16,14 @@ use Rattle.mm_tree.specs.Trees.{Trees, none, node, Tree, one, every, has_some}
 use Rattle.mm_tree.specs.Validity.{is_valid_kind, is_valid_node, is_valid_tree, is_element, piece_count, pieces}
 use Rattle.mm_xml.specs.declared.token.Tag.{Tag}
 use Rattle.mm_xml.specs.declared.token.Tag.TheVariants.{Open, Empty, Close}
-use Rattle.mm_xml.specs.Grammar.{Token, Tagged, Char, is_name, is_name_start, is_name_char, is_text_char, spelled, spelled_tag, Bracket, Begin, End, name_of, text_brackets, tag_brackets, brackets, bracketing, IsBareOutside, Spells}
+use Rattle.mm_xml.specs.Grammar.{Token, Tagged, Char, is_name, is_name_start, is_name_char, is_text_char, spelled, spelled_tag, Bracket, Begin, End, name_of, text_brackets, tag_brackets, brackets, bracketing, IsBareOutside, SpellsElement}
 use Rattle.mm_xml.proofs.Options.{both}
 use Rattle.mm_xml.proofs.Ascii.{name_ascii, text_ascii, name_utf8, text_utf8, name_same, text_same, char_same}
 use Rattle.mm_xml.proofs.Runs.{AreTokens, append_none}
 
 -- ---- tests
 
-both_true : (a b : Bool) → a ≡ true → b ≡ true → (a && b) ≡ true
+pub both_true : (a b : Bool) → a ≡ true → b ≡ true → (a && b) ≡ true
 both_true true b x y = y
 both_true false b x y = absurd cc
 
@@ -46,7 +46,7 @@ fourth false false false b h = h
 le_test : (a b : ℕ) → a ≤ b → leb a b ≡ true
 le_test a b h = grind (arith, nat_tests)
 
-lt_test : (a b : ℕ) → a < b → ltb a b ≡ true
+pub lt_test : (a b : ℕ) → a < b → ltb a b ≡ true
 lt_test a b h = grind (arith, nat_tests)
 
 list_all_by : (p q : ℕ → Bool) → ((c : ℕ) → p c ≡ true → q c ≡ true) → (xs : List ℕ) → list_all p xs ≡ true → list_all q xs ≡ true
@@ -121,7 +121,7 @@ plain_element name h =
 valid_element : (name : List ℕ) → is_name name ≡ true → is_valid_kind (Element (encode_utf8_all name) []) ≡ true
 valid_element name h = ap (λ (n : List ℕ). is_valid_kind (Element n [])) (name_same name h) ∙ plain_element name h
 
-plain_text : (text : List ℕ) → list_all is_text_char text ≡ true → list_all is_space text ≡ false → length text < 2 ^ 32 → is_valid_kind (Words text) ≡ true
+pub plain_text : (text : List ℕ) → list_all is_text_char text ≡ true → list_all is_space text ≡ false → length text < 2 ^ 32 → is_valid_kind (Words text) ≡ true
 unfolding is_valid_kind
 plain_text text h ink short =
     let utf8 : is_utf8 text ≡ true = is_utf8-from_IsUtf8 text (text_utf8 text h) in
@@ -248,7 +248,7 @@ whole_weight (Tagged tag name ∷ ts) each bare =
 
 -- ---- the whole
 
-pub spelled_valid : (bytes : List ℕ) (t : Tree Kind) → length bytes < 2 ^ 32 → Spells bytes t → IsTrue (is_valid_tree t)
+pub spelled_valid : (bytes : List ℕ) (t : Tree Kind) → length bytes < 2 ^ 32 → SpellsElement bytes t → IsTrue (is_valid_tree t)
 spelled_valid bytes t short s =
     let ts = s.0 in
     let spelled_length = ap length s.1.spelled_so in

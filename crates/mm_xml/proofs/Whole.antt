@@ -8,7 +8,7 @@ use Rattle.mm_tree.specs.declared.Kind.{Kind}
 use Rattle.mm_tree.specs.Trees.{Tree}
 use Rattle.mm_xml.specs.declared.token.Tag.{Tag}
 use Rattle.mm_xml.specs.declared.token.Tag.TheVariants.{Open, Empty, Close}
-use Rattle.mm_xml.specs.Grammar.{Token, Tagged, Char, is_name, is_text_char, spelled, spelled_tag, Bracket, text_brackets, tag_brackets, brackets, IsBareOutside, Spells}
+use Rattle.mm_xml.specs.Grammar.{Token, Tagged, Char, is_name, is_text_char, spelled, spelled_tag, Bracket, text_brackets, tag_brackets, brackets, IsBareOutside, SpellsElement}
 use Rattle.mm_xml.specs.Reading.{◌>>=◌, Span, Mark, Run, Frame, State, Before, Inside, After, depth_of, place_all, finished, text_step, span_step, span_at, read_from, read_all}
 use Rattle.mm_xml.proofs.Options.{bind_some, some_is}
 use Rattle.mm_xml.proofs.Ascii.{name_same}
@@ -72,7 +72,7 @@ read_sound (suc n) s (b ∷ bytes) t e =
     let moved = bind_some (span_step s x.0) (λ y. read_from n y x.1) t found.2 in
     read_span s moved.0 x.0 (b ∷ bytes) x.1 t (span_takes (b ∷ bytes) x found.1) moved.1 (read_sound n moved.0 x.1 t moved.2)
 
-pub read_spells : (bytes : List ℕ) (t : Tree Kind) → read_all bytes ≡ Some t → Spells bytes t
+pub read_spells : (bytes : List ℕ) (t : Tree Kind) → read_all bytes ≡ Some t → SpellsElement bytes t
 unfolding read_all
 read_spells bytes t e =
     let r = read_sound (length bytes) Before bytes t e in (
@@ -140,7 +140,7 @@ read_again (suc n) (Tagged tag name ∷ ts) s each bare le =
     ∙ ap (λ o. o >>= finished) (sym (place_all_append s (tag_brackets tag name) (brackets [] ts)))
     ∙ ap (λ (m : List ℕ). build s (tag_brackets tag m ++ brackets [] ts)) (sym same)
 
-pub spelled_read : (bytes : List ℕ) (t : Tree Kind) → Spells bytes t → read_all bytes ≡ Some t
+pub spelled_read : (bytes : List ℕ) (t : Tree Kind) → SpellsElement bytes t → read_all bytes ≡ Some t
 unfolding read_all
 spelled_read bytes t h =
     let s = h.1 in
@@ -150,5 +150,5 @@ spelled_read bytes t h =
     ∙ build_full t
 
 -- bytes spell at most one tree
-pub one_tree : (bytes : List ℕ) (t u : Tree Kind) → Spells bytes t → Spells bytes u → t ≡ u
+pub one_tree : (bytes : List ℕ) (t u : Tree Kind) → SpellsElement bytes t → SpellsElement bytes u → t ≡ u
 one_tree bytes t u a b = some_is t u (sym (spelled_read bytes t a) ∙ spelled_read bytes u b)

@@ -2,7 +2,7 @@
 --
 -- Tokens are written out in characters and spelled in UTF-8. A token says where nodes begin and end, and so does a tree.
 -- Bytes spell a tree where some tokens spell the bytes and say of its nodes what the tree says.
-use Rattle.std.specs.Prelude.{ℕ, ◌≡◌, ◌≢◌, ◌+◌, ◌-◌, List, [], ◌∷◌, ◌++◌, length, Bool, false, ◌&&◌, ◌||◌, not, ◌==◌, nat_le, IsTrue, if◌then◌else◌, encode_utf8}
+use Rattle.std.specs.Prelude.{ℕ, ◌≡◌, ◌≢◌, ◌⊎◌, ◌+◌, ◌-◌, List, [], ◌∷◌, ◌++◌, length, Bool, false, ◌&&◌, ◌||◌, not, ◌==◌, nat_le, IsTrue, if◌then◌else◌, encode_utf8}
 use Rattle.std.specs.List.{flat_map, AllByRecursion, list_all}
 use Rattle.std.specs.Str.{encode_utf8_all}
 use Rattle.mm_tree.specs.declared.Kind.{Kind}
@@ -104,8 +104,19 @@ pub record SpelledBy (bytes : List ℕ) (t : Tree Kind) (tokens : List Token) : 
   pub bare : IsBareOutside 0 tokens
   pub tree_is : brackets [] tokens ≡ bracketing (one t)
 
+-- the document form: an element
+abbrev pub SpellsElement : List ℕ → Tree Kind → Type 0
+SpellsElement bytes t = (tokens : List Token) × SpelledBy bytes t tokens
+
+-- the text form: characters of text, which have one byte each, and not white space alone
+pub record SpellsText (bytes : List ℕ) (t : Tree Kind) : Type 0 where
+  pub each : IsTrue (list_all is_text_char bytes)
+  pub told : list_all is_space bytes ≡ false
+  pub tree_is : t ≡ (Words bytes, none)
+
+-- bytes spell a tree in the document form or in the text form
 abbrev pub Spells : List ℕ → Tree Kind → Type 0
-Spells bytes t = (tokens : List Token) × SpelledBy bytes t tokens
+Spells bytes t = SpellsElement bytes t ⊎ SpellsText bytes t
 
 -- ---- the content of an element
 

@@ -1,17 +1,21 @@
-ghost use Rattle.std.specs.Prelude.{◌≡◌, ◌<◌, ◌^◌, length, IfOk, IsErrOf, IsTrue};
+ghost use Rattle.std.specs.Prelude.{◌≡◌, ◌<◌, ◌^◌, ◌&&◌, not, length, IfOk, IsErrOf, IsTrue};
+ghost use Rattle.std.specs.List.{list_all};
+ghost use Rattle.std.specs.Str.{IsUtf8};
+ghost use Rattle.mm_tree.specs.Characters.{is_space as space_is};
 ghost use Rattle.mm_tree.specs.declared.Kind.{Kind};
 ghost use Rattle.mm_tree.specs.Trees.{Tree, tree_of};
 ghost use Rattle.mm_tree.specs.Validity.{is_valid_tree};
-ghost use Rattle.mm_xml.specs.Grammar.{Spells};
+ghost use Rattle.mm_xml.specs.Grammar.{is_text_char as text_char_is, Spells};
 ghost use Rattle.mm_xml.specs.Reading.{read_all};
 ghost use Rattle.mm_xml.specs.Builds.{state_of, Gives};
-ghost use Rattle.mm_xml.specs.Answers.{IsShallow, IsTooDeep, AnswersFor};
+ghost use Rattle.mm_xml.specs.Answers.{IsShallow, IsTooDeep, AnswersFor, ReadsElement, ReadsText};
 
 use crate::error::XmlError;
-use crate::outline::level_count;
-use crate::stack::Stack;
-use crate::token::next_lexeme;
-use mm_tree::Plain;
+use crate::outline::{is_blank, level_count};
+use crate::stack::{Stack, text_of};
+use crate::token::{is_text_char, next_lexeme};
+use mm_list::Items;
+use mm_tree::{Kind, Plain};
 use std::alloc::Global;
 
 /// The tree of the bytes. Stops at the first level too many, whatever follows.
@@ -36,7 +40,49 @@ fn shallow_tree(alloc: Global, bytes: &[u8]) -> Result<Plain, XmlError>
     stack.finish().ok_or(XmlError::NotXml)
 }
 
-/// The one tree that the bytes spell, if it has at most 200 levels. A text counts as a level.
+/// The one element that the bytes spell, if it has at most 200 levels.
+fn read_element(alloc: Global, bytes: &[u8]) -> Result<Plain, XmlError>
+    ensures { ReadsElement result bytes.now }
+{
+    match shallow_tree(alloc, bytes) {
+        Ok(tree) => Ok(tree),
+        Err(XmlError::NotXml) => Err(XmlError::NotXml),
+        Err(XmlError::TooDeep) => {
+            // What is malformed further on is no XML, however deep.
+            level_count(alloc, bytes)?;
+            Err(XmlError::TooDeep)
+        }
+        Err(XmlError::Memory) => Err(XmlError::Memory),
+    }
+}
+
+/// The text that the bytes spell, which are characters of text and not all white space.
+fn read_text(alloc: Global, bytes: &[u8]) -> Result<Plain, XmlError>
+    requires { IsUtf8 bytes.now }
+    ensures { ReadsText result bytes.now }
+{
+    let text = text_of(alloc, bytes)?;
+    Ok(Plain {
+        kind: Kind::Words { text },
+        children: Items::new(alloc),
+    })
+}
+
+fn is_char_data(bytes: &[u8]) -> bool
+    ensures { result ≡ list_all text_char_is bytes.now }
+{
+    bytes.iter().all(|b| is_text_char(*b))
+}
+
+/// Whether all bytes are characters of text, and some aren't white space.
+fn is_text(bytes: &[u8]) -> bool
+    ensures { result ≡ (list_all text_char_is bytes.now && not (list_all space_is bytes.now)) }
+{
+    is_char_data(bytes) && !is_blank(bytes)
+}
+
+/// The one tree that the bytes spell, an element or a text, if it has at most 200 levels. A text counts
+/// as a level.
 pub fn read(alloc: Global, bytes: &[u8]) -> Result<Plain, XmlError>
     // What is given is a tree that the bytes spell, and not too deep.
     ensures found { IfOk result (λ p. Spells bytes.now (tree_of p) × IsShallow (tree_of p)) }
@@ -49,14 +95,9 @@ pub fn read(alloc: Global, bytes: &[u8]) -> Result<Plain, XmlError>
     // What is given can be stored.
     ensures valid { length bytes.now < 2 ^ 32 → IfOk result (λ p. IsTrue (is_valid_tree (tree_of p))) }
 {
-    match shallow_tree(alloc, bytes) {
-        Ok(tree) => Ok(tree),
-        Err(XmlError::NotXml) => Err(XmlError::NotXml),
-        Err(XmlError::TooDeep) => {
-            // What is malformed further on is no XML, however deep.
-            level_count(alloc, bytes)?;
-            Err(XmlError::TooDeep)
-        }
-        Err(XmlError::Memory) => Err(XmlError::Memory),
+    if is_text(bytes) {
+        read_text(alloc, bytes)
+    } else {
+        read_element(alloc, bytes)
     }
 }

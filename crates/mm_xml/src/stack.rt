@@ -36,7 +36,7 @@ pub struct Stack {
 }
 
 /// A copy of bytes as a text.
-fn text_of(alloc: Global, bytes: &[u8]) -> Result<Text, AllocError>
+pub fn text_of(alloc: Global, bytes: &[u8]) -> Result<Text, AllocError>
     requires { IsUtf8 bytes.now }
     ensures { IfOk result (λ t. t ≡ bytes.now) }
 {

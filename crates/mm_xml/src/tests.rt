@@ -64,6 +64,8 @@ fn takes_elements_and_texts(rt: HostRuntime) {
         "<a>b<c/>d</a>",
         "<a>\"b\" = c; !/?}~</a>",
         "<a><b>c</b><b></b></a>",
+        "a",
+        " a\n",
     ] {
         assert_eq!(rt; outcome(rt.alloc(), text), Answer::Tree, "at {text}");
     }
@@ -74,7 +76,7 @@ fn refuses_what_is_no_element(rt: HostRuntime) {
     for text in [
         "",
         " ",
-        "a",
+        "a]",
         "<",
         "<a",
         "<a/",

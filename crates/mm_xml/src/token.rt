@@ -38,7 +38,7 @@ fn is_name_char(c: u8) -> bool
     is_name_start(c) || between(b'0', b'9', c)
 }
 
-fn is_text_char(c: u8) -> bool
+pub fn is_text_char(c: u8) -> bool
     ensures { result ≡ text_char_is c }
 {
     c == b'\t'

@@ -1,4 +1,4 @@
-use Rattle.std.proofs.Common.{◌≤◌, ◌+◌, vec_len}
+use Rattle.std.proofs.Common.{◌≡◌, ◌≤◌, ◌+◌, vec_len}
 use Rattle.mm_run.specs.Input.{rest, reach}
 use Rattle.mm_run.specs.Payloads.{payload_limit}
 use Rattle.mm_run.proofs.Gathering.{Gathers}
@@ -6,8 +6,9 @@ use Rattle.mm_run.proofs.payload.next_payload.Given as goal
 
 abbrev pub invariant-rows : goal.invariant-rows
 invariant-rows g l = record {
-  gathers : Gathers l.form (rest (g.S.Source.left l.fn.source) l.fn.buffer) (rest (g.S.Source.left l.source) l.buffer) (reach l.fn.buffer) (reach l.buffer) l.payload.items;
+  gathers : Gathers l.fn.form (rest (g.S.Source.left l.fn.source) l.fn.buffer) (rest (g.S.Source.left l.source) l.buffer) (reach l.fn.buffer) (reach l.buffer) l.payload.items;
   few : vec_len l.payload ≤ payload_limit + 1;
+  same : l.form ≡ l.fn.form;
   count : g.S.Source.fault_count l.fn.source ≤ g.S.Source.fault_count l.source;
 }
 

@@ -11,24 +11,24 @@ returns-in-Ok-Full-clause-next g c = λ rows over.
     skips-full c.rows.invariant.skips rows over full.0 full.1
 
 pub returns-in-Ok-Cut-clause-next : goal.returns-in-Ok-Cut-clause-next
-returns-in-Ok-Cut-clause-next g c = λ rows over. skips-cut c.rows.invariant.skips rows over (rw c.in-Ok-Cut.field-0-is at c.in-Ok-Cut.ensures.row)
+returns-in-Ok-Cut-clause-next g c = rw c.rows.invariant.same λ rows over. skips-cut c.rows.invariant.skips rows over (rw c.in-Ok-Cut.field-0-is at c.in-Ok-Cut.ensures.row)
 
 pub returns-in-Ok-LastClosed-clause-next : goal.returns-in-Ok-LastClosed-clause-next
-returns-in-Ok-LastClosed-clause-next g c = λ rows over.
+returns-in-Ok-LastClosed-clause-next g c = rw c.rows.invariant.same λ rows over.
     let last = rw c.in-Ok-LastClosed.field-0-is at c.in-Ok-LastClosed.ensures.row in
     skips-last c.rows.invariant.skips rows over last.0
 
 pub returns-in-Ok-Closed-clause-next : goal.returns-in-Ok-Closed-clause-next
-returns-in-Ok-Closed-clause-next g c = λ rows over.
+returns-in-Ok-Closed-clause-next g c = rw c.rows.invariant.same λ rows over.
     let closed = rw c.in-Ok-Closed.field-0-is at c.in-Ok-Closed.ensures.row in
     skips-closed c.rows.invariant.skips rows over closed.0 c.requires
 
 pub rows-preserved-in-Ok-Over : goal.rows-preserved-in-Ok-Over
 rows-preserved-in-Ok-Over g c =
     let over = rw c.in-Ok-Over.field-0-is at c.in-Ok-Over.ensures.row in
-    record { skips = skips-more c.rows.invariant.skips over.0; count = omega (arith, c.rows.invariant.count, c.in-Ok-Over.ensures.cause.later) }
+    record { skips = skips-more c.rows.invariant.skips over.0; same = c.rows.invariant.same; count = omega (arith, c.rows.invariant.count, c.in-Ok-Over.ensures.cause.later) }
 
 pub rows-preserved : goal.rows-preserved
 rows-preserved g c =
     let added = rw c.in-Ok-Added.field-0-is at c.in-Ok-Added.ensures.row in
-    record { skips = skips-more c.rows.invariant.skips added.0; count = omega (arith, c.rows.invariant.count, c.in-Ok-Added.ensures.cause.later) }
+    record { skips = skips-more c.rows.invariant.skips added.0; same = c.rows.invariant.same; count = omega (arith, c.rows.invariant.count, c.in-Ok-Added.ensures.cause.later) }

@@ -1,11 +1,12 @@
-use Rattle.std.proofs.Common.{◌≤◌}
+use Rattle.std.proofs.Common.{◌≡◌, ◌≤◌}
 use Rattle.mm_run.specs.Input.{rest, reach}
 use Rattle.mm_run.proofs.Gathering.{Skips}
 use Rattle.mm_run.proofs.payload.skip_payload.Given as goal
 
 abbrev pub invariant-rows : goal.invariant-rows
 invariant-rows g l = record {
-  skips : Skips l.form (rest (g.S.Source.left l.fn.source) l.fn.buffer) (rest (g.S.Source.left l.source) l.buffer) (reach l.fn.buffer) (reach l.buffer);
+  skips : Skips l.fn.form (rest (g.S.Source.left l.fn.source) l.fn.buffer) (rest (g.S.Source.left l.source) l.buffer) (reach l.fn.buffer) (reach l.buffer);
+  same : l.form ≡ l.fn.form;
   count : g.S.Source.fault_count l.fn.source ≤ g.S.Source.fault_count l.source;
 }
 

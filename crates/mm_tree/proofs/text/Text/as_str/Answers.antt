@@ -1,5 +1,5 @@
 -- The bytes that a text holds are UTF-8.
-use Rattle.std.proofs.Common.{◌≡◌, sym, subst}
+use Rattle.std.proofs.Common.{sym, subst}
 use Rattle.std.specs.Str.{IsUtf8}
 use Rattle.std.proofs.lemmas.Str.{IsUtf8-from_is_utf8}
 use Rattle.mm_tree.proofs.text.Text.as_str.Goals as goal

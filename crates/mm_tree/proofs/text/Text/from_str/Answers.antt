@@ -1,5 +1,5 @@
 -- What a `str` lends is UTF-8, and so is its copy.
-use Rattle.std.proofs.Common.{◌≡◌, sym, subst}
+use Rattle.std.proofs.Common.{sym, subst}
 use Rattle.std.specs.Str.{IsUtf8}
 use Rattle.std.proofs.lemmas.Str.{is_utf8-from_IsUtf8}
 use Rattle.mm_tree.proofs.text.Text.from_str.Goals as goal

@@ -1,0 +1,44 @@
+-- How answers are written. Each line ends with a line feed (10), and its words are parted by spaces (32).
+use Rattle.std.specs.Prelude.{ℕ, ℤ, ◌^◌, ◌-◌, min, List, [], ◌∷◌, ◌++◌, length, codes}
+use Rattle.std.specs.List.{flat_map}
+use Rattle.std.specs.Fmt.{decimal}
+use Rattle.mm_label.specs.Text.{text_of}
+use Rattle.mm_tree.specs.declared.refusal.Refusal.{Refusal}
+use Rattle.mm_tree.specs.declared.hit.Hit.{Hit}
+use Rattle.mm_tree.specs.Refusals.{number_of, word_of}
+use Rattle.mm_tree.specs.Trees.{Tree, one, nodes}
+use Rattle.mm_tree.specs.Numbering.{Labelled, node_of}
+use Rattle.mm_xml.specs.Writing.{written, without_labels}
+use Rattle.mm_command.specs.declared.reply.Reply.{Reply}
+use Rattle.mm_command.specs.declared.reply.Reply.TheVariants as reply
+
+-- `no`, the number and the word of a refusal
+abbrev pub refused_text : Refusal → List ℕ
+refused_text r = codes "no " ++ (decimal (number_of r) ++ 32 ∷ (word_of r ++ 10 ∷ []))
+
+-- `ok`, a label and a number of nodes
+abbrev pub done_text : List ℤ → ℕ → List ℕ
+done_text label count = codes "ok " ++ (text_of label ++ 32 ∷ (decimal count ++ 10 ∷ []))
+
+-- a number, as far as 64 bits hold it
+abbrev pub told : ℕ → ℕ
+told n = min n (2 ^ 64 - 1)
+
+-- `tree`, the node's label and the number of nodes, and a line with the XML of the node
+abbrev pub tree_text : Tree Labelled → List ℕ
+tree_text t =
+    codes "tree " ++ (text_of t.0.label ++ 32 ∷ (decimal (told (nodes (one t))) ++ 10 ∷ (written (without_labels (one t)) ++ 10 ∷ [])))
+
+-- a label and a name
+abbrev pub hit_line : Hit → List ℕ
+hit_line hit = text_of hit.label ++ 32 ∷ (hit.name ++ 10 ∷ [])
+
+-- `hits` and their number, and a line for each
+abbrev pub hits_text : List Hit → List ℕ
+hits_text hits = codes "hits " ++ (decimal (length hits) ++ 10 ∷ flat_map hit_line hits)
+
+abbrev pub reply_text : Reply → List ℕ
+reply_text (reply.Done done) = done_text done.label done.nodes
+reply_text (reply.Hits hits) = hits_text hits
+reply_text (reply.Tree n) = tree_text (node_of n)
+reply_text (reply.Refused r) = refused_text r

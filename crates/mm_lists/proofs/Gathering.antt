@@ -1,0 +1,150 @@
+-- Lists in memory hold the labels that were put into them.
+use Rattle.std.proofs.Common.{◌≡◌, ℕ, Bool, true, false, ◌||◌, cond, List, [], ◌∷◌, ◌++◌, append_assoc, refl, ap, sym, subst, ◌∙◌, Option, Some, None, drop, length, arith, ◌<◌, ◌≤◌, ◌+◌, get_or, Less}
+use Rattle.std.specs.Prelude.{unwrap_or, bytes_eq, ◌↔◌}
+use Rattle.std.specs.BTreeMap.{BTreeMap, get}
+use Rattle.std.specs.List.{list_any, Contains, AllByRecursion}
+use Rattle.std.specs.List.Sorted.{IsStrictlySortedBy}
+use Rattle.std.specs.Ordering.{nat_cmp, is_eq}
+use Rattle.std.specs.Cmp.{both_ways}
+use Rattle.std.specs.Cmp.Lexicographic.{slice_cmp}
+use Rattle.std.proofs.lemmas.Cmp.{nat_list_cmp_total, nat_list_eq_equiv, tied_itself}
+use Rattle.std.proofs.lemmas.List.{append-nil, drop_more, drop_all}
+use Rattle.std.proofs.lemmas.Map.Keys.{sorted_head, sorted_tail}
+use Rattle.std.proofs.lemmas.Map.Text.{is_eq-slice_cmp}
+use Rattle.std.proofs.lemmas.Map.Views.{Contains-from_any, list_any-from_Contains}
+use Rattle.std.proofs.lemmas.Slice.Eq.{bytes_eq-Decides}
+use Rattle.mm_tree.specs.declared.node.Node.{Node}
+use Rattle.mm_tree.specs.declared.node.Node.TheFolds.{fold_out-Node}
+use Rattle.mm_tree.specs.declared.node.Node.TheViews.{out-Node}
+use Rattle.mm_tree.specs.Trees.{Tree, node}
+use Rattle.mm_tree.specs.Numbering.{Labelled, node_of, node_step, forest_of}
+use Rattle.mm_tree.specs.Search.{list_of, own, worded}
+use Rattle.mm_lists.specs.Fronts.{Label, Word}
+use Rattle.mm_lists.specs.Memory.{list_in}
+
+bytes_turned : (v w : Word) → bytes_eq v w ≡ true → bytes_eq w v ≡ true
+bytes_turned v w e = (bytes_eq-Decides w v).1 (sym ((bytes_eq-Decides v w).0 e))
+
+-- a list is taken out, a label put behind it, and the list put back
+pub put_is : (old mid new : BTreeMap Word (List Label)) (word : Word) (list more : List Label) (label : Label)
+    → list ≡ list_in old word → more ≡ list ++ label ∷ []
+    → ((q : Word) → get (slice_cmp nat_cmp) mid q ≡ cond (is_eq (slice_cmp nat_cmp word q)) None (get (slice_cmp nat_cmp) old q))
+    → ((q : Word) → get (slice_cmp nat_cmp) new q ≡ cond (is_eq (slice_cmp nat_cmp word q)) (Some more) (get (slice_cmp nat_cmp) mid q))
+    → (w : Word) → list_in new w ≡ list_in old w ++ cond (bytes_eq w word) (label ∷ []) []
+put_is old mid new word list more label a b f g w = by (is_eq (slice_cmp nat_cmp word w)) refl
+  where
+    here : is_eq (slice_cmp nat_cmp word w) ≡ bytes_eq word w
+    here = is_eq-slice_cmp word w
+
+    turned : (t : Bool) → bytes_eq word w ≡ t → bytes_eq w word ≡ t
+    turned true e = bytes_turned word w e
+    turned false e = other (bytes_eq w word) refl
+      where
+        other : (u : Bool) → bytes_eq w word ≡ u → bytes_eq w word ≡ false
+        other true h = let k = bytes_turned w word h in absurd cc
+        other false h = h
+
+    by : (t : Bool) → is_eq (slice_cmp nat_cmp word w) ≡ t → list_in new w ≡ list_in old w ++ cond (bytes_eq w word) (label ∷ []) []
+    by true e =
+        let p : bytes_eq word w ≡ true = sym here ∙ e in
+        let q : word ≡ w = (bytes_eq-Decides word w).0 p in
+        let k : get (slice_cmp nat_cmp) new w ≡ Some more = g w ∙ ap (λ (t : Bool). cond t (Some more) (get (slice_cmp nat_cmp) mid w)) e in
+        ap (λ (o : Option (List Label)). unwrap_or o []) k
+        ∙ (b ∙ (ap (λ (z : List Label). z ++ label ∷ []) (a ∙ ap (list_in old) q)
+        ∙ ap (λ (t : Bool). list_in old w ++ cond t (label ∷ []) []) (sym (turned true p))))
+    by false e =
+        let p : bytes_eq word w ≡ false = sym here ∙ e in
+        let k : get (slice_cmp nat_cmp) new w ≡ get (slice_cmp nat_cmp) old w = g w
+        ∙ (ap (λ (t : Bool). cond t (Some more) (get (slice_cmp nat_cmp) mid w)) e
+        ∙ (f w ∙ ap (λ (t : Bool). cond t None (get (slice_cmp nat_cmp) old w)) e)) in
+        ap (λ (o : Option (List Label)). unwrap_or o []) k
+        ∙ (sym (append-nil (list_in old w)) ∙ ap (λ (t : Bool). list_in old w ++ cond t (label ∷ []) []) (sym (turned false p)))
+
+-- ---- a node's own words, one after the other
+
+none_later : (w : Word) (ws : List Word) → AllByRecursion (λ y. slice_cmp nat_cmp w y ≡ Less) ws → list_any (bytes_eq w) ws ≡ false
+none_later w [] a = refl
+none_later w (y ∷ ws) a = by (bytes_eq w y) refl (none_later w ws a.1)
+  where
+    by : (t : Bool) → bytes_eq w y ≡ t → list_any (bytes_eq w) ws ≡ false → (bytes_eq w y || list_any (bytes_eq w) ws) ≡ false
+    by true e h =
+        let p = subst (λ (x : Word). slice_cmp nat_cmp w x ≡ Less) (sym ((bytes_eq-Decides w y).0 e)) a.0 in
+        let q = tied_itself nat_list_cmp_total w in
+        absurd cc
+    by false e h = ap (λ (t : Bool). t || list_any (bytes_eq w) ws) e ∙ h
+
+-- the label is put behind the list of the first word: that of no later one
+pub put_first : (before after : BTreeMap Word (List Label)) (x : Word) (rest : List Word) (label : Label) → IsStrictlySortedBy (slice_cmp nat_cmp) (x ∷ rest)
+    → ((w : Word) → list_in after w ≡ list_in before w ++ cond (bytes_eq w x) (label ∷ []) [])
+    → (w : Word) (all : List Label) → list_in before w ++ cond (list_any (bytes_eq w) (x ∷ rest)) (label ∷ []) [] ≡ all
+    → list_in after w ++ cond (list_any (bytes_eq w) rest) (label ∷ []) [] ≡ all
+put_first before after x rest label s f w all e = by (bytes_eq w x) refl
+  where
+    part : Bool → List Label
+    part t = cond t (label ∷ []) []
+
+    by : (t : Bool) → bytes_eq w x ≡ t → list_in after w ++ cond (list_any (bytes_eq w) rest) (label ∷ []) [] ≡ all
+    by true h =
+        let none : list_any (bytes_eq w) rest ≡ false = none_later w rest (subst (λ (v : Word). AllByRecursion (λ y. slice_cmp nat_cmp v y ≡ Less) rest) (sym ((bytes_eq-Decides w x).0 h)) (sorted_head (slice_cmp nat_cmp) x rest s)) in
+        ap (λ (t : Bool). list_in after w ++ cond t (label ∷ []) []) none
+        ∙ (append-nil (list_in after w)
+        ∙ (f w ∙ (ap (λ (t : Bool). list_in before w ++ cond t (label ∷ []) []) h
+        ∙ (sym (ap (λ (t : Bool). list_in before w ++ cond (t || list_any (bytes_eq w) rest) (label ∷ []) []) h) ∙ e))))
+    by false h =
+        ap (λ (z : List Label). z ++ cond (list_any (bytes_eq w) rest) (label ∷ []) []) (f w ∙ (ap (λ (t : Bool). list_in before w ++ cond t (label ∷ []) []) h ∙ append-nil (list_in before w)))
+        ∙ (sym (ap (λ (t : Bool). list_in before w ++ cond (t || list_any (bytes_eq w) rest) (label ∷ []) []) h) ∙ e)
+
+pub nothing_left : (lists : BTreeMap Word (List Label)) (left : List Word) (n : ℕ) (label : Label) → n ≡ length left → n ≡ 0 → (w : Word) (all : List Label)
+    → list_in lists w ++ cond (list_any (bytes_eq w) left) (label ∷ []) [] ≡ all → list_in lists w ≡ all
+nothing_left lists [] n label p q w all e = sym (append-nil (list_in lists w)) ∙ e
+nothing_left lists (x ∷ left) n label p q w all e = absurd (omega arith)
+
+-- the same words: the same test
+pub same_any : (these list : List Word) → ((w : Word) → Contains list w ↔ Contains these w) → (w : Word) → list_any (bytes_eq w) list ≡ list_any (bytes_eq w) these
+same_any these list f w = both_ways (list_any (bytes_eq w) list) (list_any (bytes_eq w) these)
+    (λ e. there these ((f w).0 (here list e)))
+    (λ e. there list ((f w).1 (here these e)))
+  where
+    here : (ks : List Word) → list_any (bytes_eq w) ks ≡ true → Contains ks w
+    here ks e = Contains-from_any {eq = bytes_eq} (λ x y h. (bytes_eq-Decides x y).0 h) w ks e
+
+    there : (ks : List Word) → Contains ks w → list_any (bytes_eq w) ks ≡ true
+    there ks c = list_any-from_Contains {eq = bytes_eq} nat_list_eq_equiv w ks c
+
+-- ---- nodes, each with all below it, one after the other
+
+node_of_out : (n : Node) → node_of n ≡ (record { label = (out-Node n).label; kind = (out-Node n).kind }, forest_of (out-Node n).children)
+node_of_out = fold_out-Node (Tree Labelled) node_step
+
+list_first : (w : Word) (n : Node) (rest : List Node) → list_of w (worded (forest_of (n ∷ rest)))
+    ≡ cond (list_any (bytes_eq w) (own (out-Node n).kind)) ((out-Node n).label ∷ []) [] ++ (list_of w (worded (forest_of (out-Node n).children)) ++ list_of w (worded (forest_of rest)))
+list_first w n rest = ap (λ (t : Tree Labelled). list_of w (worded (node t.0 t.1 (forest_of rest)))) (node_of_out n)
+
+regroup : (a b c d : List Label) → ((a ++ b) ++ c) ++ d ≡ a ++ (b ++ (c ++ d))
+regroup a b c d = simp append_assoc
+
+pub gather_first : (nodes : List Node) (i : ℕ) (n : Node) (before own_put after : BTreeMap Word (List Label)) → i < length nodes → n ≡ get_or nodes i n
+    → ((w : Word) → list_in own_put w ≡ list_in before w ++ cond (list_any (bytes_eq w) (own (out-Node n).kind)) ((out-Node n).label ∷ []) [])
+    → ((w : Word) → list_in after w ≡ list_in own_put w ++ list_of w (worded (forest_of (out-Node n).children)))
+    → (w : Word) (all : List Label) → list_in before w ++ list_of w (worded (forest_of (drop i nodes))) ≡ all
+    → list_in after w ++ list_of w (worded (forest_of (drop (i + 1) nodes))) ≡ all
+gather_first nodes i n before own_put after h e f g w all k =
+    let d : drop i nodes ≡ n ∷ drop (i + 1) nodes = drop_more nodes i n h ∙ ap (λ (m : Node). m ∷ drop (i + 1) nodes) (sym e) in
+    let rest = list_of w (worded (forest_of (drop (i + 1) nodes))) in
+    let own_part = cond (list_any (bytes_eq w) (own (out-Node n).kind)) ((out-Node n).label ∷ []) [] in
+    ap (λ (z : List Label). z ++ rest) (g w ∙ ap (λ (z : List Label). z ++ list_of w (worded (forest_of (out-Node n).children))) (f w))
+    ∙ (regroup (list_in before w) own_part (list_of w (worded (forest_of (out-Node n).children))) rest
+    ∙ (ap (λ (z : List Label). list_in before w ++ z) (sym (ap (λ (ns : List Node). list_of w (worded (forest_of ns))) d ∙ list_first w n (drop (i + 1) nodes))) ∙ k))
+
+pub all_gathered : (lists : BTreeMap Word (List Label)) (nodes : List Node) (i : ℕ) → length nodes ≤ i → (w : Word) (all : List Label)
+    → list_in lists w ++ list_of w (worded (forest_of (drop i nodes))) ≡ all → list_in lists w ≡ all
+all_gathered lists nodes i h w all e =
+    let d : drop i nodes ≡ [] = drop_all i nodes h in
+    sym (append-nil (list_in lists w)) ∙ (sym (ap (λ (ns : List Node). list_in lists w ++ list_of w (worded (forest_of ns))) d) ∙ e)
+
+-- after all words
+pub fewer_left : (left rest : List Word) (x : Word) (n m : ℕ) → n ≡ length left → left ≡ x ∷ rest → m + 1 ≡ n → m ≡ length rest
+fewer_left left rest x n m e f g = let t : length left ≡ length (x ∷ rest) = ap length f in omega arith
+
+pub tail_rises : (left rest : List Word) (x : Word) → IsStrictlySortedBy (slice_cmp nat_cmp) left → left ≡ x ∷ rest → IsStrictlySortedBy (slice_cmp nat_cmp) rest
+tail_rises left rest x s e = sorted_tail (slice_cmp nat_cmp) x rest (subst (IsStrictlySortedBy (slice_cmp nat_cmp)) e s)

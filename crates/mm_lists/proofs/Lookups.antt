@@ -1,0 +1,252 @@
+-- A binary search of labels in document order finds the first and the last that are asked for.
+use Rattle.std.proofs.Common.{inl, inr, ◌≡◌, ◌⊎◌, ℕ, zero, suc, ◌+◌, ◌-◌, ◌<◌, ◌≤◌, Bool, true, false, ◌||◌, List, [], ◌∷◌, refl, ap, sym, subst, ◌∙◌, Option, Some, None, length, arith, Ordering, Less, Equal, Greater}
+use Rattle.std.specs.Prelude.{slice_index_or, slice_get, AllPairs}
+use Rattle.std.specs.List.{AllWithin}
+use Rattle.std.specs.List.Sorted.{IsPartitionedBy, IsPartitionPoint}
+use Rattle.std.specs.Ordering.{int_cmp, is_le, is_lt, is_eq, ordering_then, ordering_reverse}
+use Rattle.std.specs.Cmp.{int_cmp_total}
+use Rattle.std.specs.Cmp.Lexicographic.{slice_cmp, lists_total}
+use Rattle.std.proofs.lemmas.Cmp.{tied_itself}
+use Rattle.std.proofs.lemmas.Bool.{cases_lt}
+use Rattle.std.proofs.lemmas.Bool.Decides.{Decides-int_eq}
+use Rattle.std.proofs.lemmas.List.Kept.{AllPairs-cons}
+use Rattle.mm_label.specs.Label.{IsBefore}
+use Rattle.mm_lists.specs.Fronts.{Label, Word, is_front, Ascends}
+use Rattle.std.specs.BTreeMap.{BTreeMap}
+use Rattle.mm_tree.specs.Trees.{Trees}
+use Rattle.mm_tree.specs.Numbering.{Labelled}
+use Rattle.mm_tree.specs.Search.{list_of, worded}
+use Rattle.mm_lists.specs.Memory.{is_through, list_in, AreOf}
+use Rattle.mm_lists.specs.Lists.{IsAtOrBefore, IsPast, IsFirst, IsLast, IsLeft, IsRight, IsNext, IsRightPast}
+use Rattle.mm_lists.proofs.FrontLaws.{front_yes, front_no, is_front_of, le_total, between_front}
+use Rattle.mm_lists.proofs.Ties.{before_lt, le_before, lt_before, front_of, ancestor_of, within_of}
+use Rattle.mm_lists.proofs.Segments.{formed}
+use Rattle.mm_lists.proofs.Listed.{list_ascends}
+
+-- ---- the tests of the search
+
+same_lists : (a b : Label) → slice_cmp int_cmp a b ≡ Equal → a ≡ b
+same_lists [] [] e = refl
+same_lists [] (y ∷ b) e = absurd cc
+same_lists (x ∷ a) [] e = absurd cc
+same_lists (x ∷ a) (y ∷ b) e = by (int_cmp x y) refl e (same_lists a b)
+  where
+    by : (o : Ordering) → int_cmp x y ≡ o → ordering_then o (slice_cmp int_cmp a b) ≡ Equal → (slice_cmp int_cmp a b ≡ Equal → a ≡ b) → x ∷ a ≡ y ∷ b
+    by Less h e f = absurd cc
+    by Equal h e f = let p : x ≡ y = (Decides-int_eq x y).0 (ap is_eq h) in let q = f e in cc
+    by Greater h e f = absurd cc
+
+before_trans : (a b c : Label) → IsBefore a b → IsBefore b c → IsBefore a c
+before_trans a b c p q = (lists_total int_cmp_total).trans a b c p q
+
+turned : (a b : Label) (o : Ordering) → slice_cmp int_cmp b a ≡ o → slice_cmp int_cmp a b ≡ ordering_reverse o
+turned a b o e = (lists_total int_cmp_total).antisymm a b ∙ ap ordering_reverse e
+
+le_true : (m v : Label) → is_le (slice_cmp int_cmp m v) ≡ true → IsAtOrBefore m v
+le_true m v e = by (slice_cmp int_cmp m v) refl e
+  where
+    by : (o : Ordering) → slice_cmp int_cmp m v ≡ o → is_le o ≡ true → IsAtOrBefore m v
+    by Less h e = inr h
+    by Equal h e = inl (same_lists m v h)
+    by Greater h e = absurd cc
+
+le_false : (m v : Label) → is_le (slice_cmp int_cmp m v) ≡ false → IsBefore v m
+le_false m v e = by (slice_cmp int_cmp m v) refl e
+  where
+    by : (o : Ordering) → slice_cmp int_cmp m v ≡ o → is_le o ≡ false → IsBefore v m
+    by Less h e = absurd cc
+    by Equal h e = absurd cc
+    by Greater h e = turned v m Greater h
+
+true_le : (m v : Label) → IsAtOrBefore m v → is_le (slice_cmp int_cmp m v) ≡ true
+true_le m v h = elim h [
+  | inl e ↦ subst (λ (x : Label). is_le (slice_cmp int_cmp m x) ≡ true) e (ap is_le (tied_itself (lists_total int_cmp_total) m))
+  | inr k ↦ ap is_le k
+]
+
+lt_true : (m v : Label) → is_lt (slice_cmp int_cmp m v) ≡ true → IsBefore m v
+lt_true m v e = by (slice_cmp int_cmp m v) refl e
+  where
+    by : (o : Ordering) → slice_cmp int_cmp m v ≡ o → is_lt o ≡ true → IsBefore m v
+    by Less h e = h
+    by Equal h e = absurd cc
+    by Greater h e = absurd cc
+
+lt_false : (m v : Label) → is_lt (slice_cmp int_cmp m v) ≡ false → IsAtOrBefore v m
+lt_false m v e = by (slice_cmp int_cmp m v) refl e
+  where
+    by : (o : Ordering) → slice_cmp int_cmp m v ≡ o → is_lt o ≡ false → IsAtOrBefore v m
+    by Less h e = absurd cc
+    by Equal h e = inl (sym (same_lists m v h))
+    by Greater h e = inr (turned v m Greater h)
+
+before_not : (a b : Label) → IsBefore a b → IsAtOrBefore b a → ⊥
+before_not a b h k = elim k [
+  | inl e ↦ (before_lt a b h).1 (sym e)
+  | inr q ↦ let t = turned a b Less q in absurd cc
+]
+
+-- ---- the test holds of a first part of the list
+
+parted : (p : Label → Bool) (ms : List Label) → AllPairs IsBefore ms → ((x y : Label) → IsBefore x y → p y ≡ true → p x ≡ true) → IsPartitionedBy p ms
+parted p ms a f = λ i j d h k e. elim (cases_lt i j) [
+  | inl q ↦ f (slice_index_or ms i d) (slice_index_or ms j d) (a i j d q k) e
+  | inr q ↦ let s : j ≡ i = omega arith in subst (λ (n : ℕ). p (slice_index_or ms n d) ≡ true) s e
+]
+
+pub up_to_parted : (ms : List Label) (v : Label) → AllPairs IsBefore ms → IsPartitionedBy (λ m. is_le (slice_cmp int_cmp m v)) ms
+up_to_parted ms v a = parted (λ m. is_le (slice_cmp int_cmp m v)) ms a
+    (λ x y h e. elim (le_true y v e) [ inl q ↦ true_le x v (inr (subst (IsBefore x) q h)) | inr q ↦ true_le x v (inr (before_trans x y v h q)) ])
+
+pub before_parted : (ms : List Label) (v : Label) → AllPairs IsBefore ms → IsPartitionedBy (λ m. is_lt (slice_cmp int_cmp m v)) ms
+before_parted ms v a = parted (λ m. is_lt (slice_cmp int_cmp m v)) ms a (λ x y h e. ap is_lt (before_trans x y v h (lt_true y v e)))
+
+or_cases : (a b : Bool) → (a || b) ≡ true → (a ≡ true) ⊎ (b ≡ true)
+or_cases true b e = inl refl
+or_cases false b e = inr e
+
+or_left : (a b : Bool) → a ≡ true → (a || b) ≡ true
+or_left true b e = refl
+or_left false b e = absurd cc
+
+or_right : (a b : Bool) → b ≡ true → (a || b) ≡ true
+or_right true b e = refl
+or_right false b e = e
+
+or_false : (a b : Bool) → (a || b) ≡ false → (a ≡ false) × (b ≡ false)
+or_false true b e = absurd cc
+or_false false b e = (refl, e)
+
+pub through_parted : (ms : List Label) (v : Label) → AllPairs IsBefore ms → IsPartitionedBy (is_through v) ms
+through_parted ms v a = parted (is_through v) ms a (λ x y h e.
+    elim (or_cases (is_le (slice_cmp int_cmp y v)) _ e) [
+      | inl q ↦ or_left (is_le (slice_cmp int_cmp x v)) _ (elim (le_true y v q) [ inl s ↦ true_le x v (inr (subst (IsBefore x) s h)) | inr s ↦ true_le x v (inr (before_trans x y v h s)) ])
+      | inr q ↦ elim (le_total x v) [
+        | inl s ↦ or_left (is_le (slice_cmp int_cmp x v)) _ (true_le x v (le_before x v s))
+        | inr s ↦ or_right (is_le (slice_cmp int_cmp x v)) _ (is_front_of v x (between_front v x y s (before_lt x y h).0 (front_yes v y q)))
+      ]
+    ])
+
+pub up_to_point : (ms : List Label) (v : Label) (i : ℕ) → IsPartitionPoint (λ m. is_le (slice_cmp int_cmp m v) ≡ true) (λ m. is_le (slice_cmp int_cmp m v) ≡ false) ms i
+    → IsPartitionPoint (λ m. IsAtOrBefore m v) (λ m. IsBefore v m) ms i
+up_to_point ms v i p = (λ k d h q. le_true _ v (p.0 k d h q), λ k d h q. le_false _ v (p.1 k d h q))
+
+pub before_point : (ms : List Label) (v : Label) (i : ℕ) → IsPartitionPoint (λ m. is_lt (slice_cmp int_cmp m v) ≡ true) (λ m. is_lt (slice_cmp int_cmp m v) ≡ false) ms i
+    → IsPartitionPoint (λ m. IsBefore m v) (λ m. IsAtOrBefore v m) ms i
+before_point ms v i p = (λ k d h q. lt_true _ v (p.0 k d h q), λ k d h q. lt_false _ v (p.1 k d h q))
+
+through_yes : (v m : Label) → is_through v m ≡ true → IsPast v m → ⊥
+through_yes v m e h = elim (or_cases (is_le (slice_cmp int_cmp m v)) _ e) [
+  | inl q ↦ before_not v m h.0 (le_true m v q)
+  | inr q ↦ h.1 (ancestor_of v m (front_yes v m q))
+]
+
+through_no : (v m : Label) → is_through v m ≡ false → IsPast v m
+through_no v m e =
+    let t = or_false (is_le (slice_cmp int_cmp m v)) (is_front v m) e in
+    (le_false m v t.0, λ f. front_no v m t.1 (front_of v m f))
+
+pub through_point : (ms : List Label) (v : Label) (i : ℕ) → IsPartitionPoint (λ m. is_through v m ≡ true) (λ m. is_through v m ≡ false) ms i
+    → IsPartitionPoint (λ m. IsPast v m → ⊥) (λ m. IsPast v m) ms i
+through_point ms v i p = (λ k d h q. through_yes v _ (p.0 k d h q), λ k d h q. through_no v _ (p.1 k d h q))
+
+-- ---- what stands at the place
+
+get_none : (ms : List Label) (i : ℕ) → length ms ≤ i → slice_get ms i ≡ None
+get_none [] i h = refl
+get_none (m ∷ ms) zero h = absurd (omega arith)
+get_none (m ∷ ms) (suc i) h = get_none ms i (omega arith)
+
+get_some : (ms : List Label) (i : ℕ) (d : Label) → i < length ms → slice_get ms i ≡ Some (slice_index_or ms i d)
+get_some [] i d h = absurd (omega arith)
+get_some (m ∷ ms) zero d h = refl
+get_some (m ∷ ms) (suc i) d h = get_some ms i d (omega arith)
+
+same_at : (ms : List Label) (i : ℕ) (d e : Label) → i < length ms → slice_index_or ms i d ≡ slice_index_or ms i e
+same_at [] i d e h = absurd (omega arith)
+same_at (m ∷ ms) zero d e h = refl
+same_at (m ∷ ms) (suc i) d e h = same_at ms i d e (omega arith)
+
+-- of two places, the earlier has the label at or before
+at_or_before : (ms : List Label) (i k : ℕ) (d e : Label) → AllPairs IsBefore ms → i ≤ k → k < length ms → IsAtOrBefore (slice_index_or ms i d) (slice_index_or ms k e)
+at_or_before ms i k d e a h q = subst (λ (x : Label). IsAtOrBefore (slice_index_or ms i d) x) (same_at ms k d e q) (elim (cases_lt i k) [
+  | inl s ↦ inr (a i k d s q)
+  | inr s ↦ let t : i ≡ k = omega arith in inl (ap (λ (n : ℕ). slice_index_or ms n d) t)
+])
+
+pub first_found : (P : Label → Type 0) (ms : List Label) (i : ℕ) (o : Option Label) → AllPairs IsBefore ms → AllWithin (λ m. P m → ⊥) ms 0 i → AllWithin P ms i (length ms) → o ≡ slice_get ms i → IsFirst P ms o
+first_found P ms i o a low high e = elim (cases_lt i (length ms)) [
+  | inl h ↦ subst (IsFirst P ms) (sym (e ∙ get_some ms i [] h)) (some h)
+  | inr h ↦ subst (IsFirst P ms) (sym (e ∙ get_none ms i h)) (λ m c p. low c.0 m (omega arith) (omega (arith, c.1)) (subst P (sym c.2) p))
+]
+  where
+    some : i < length ms → IsFirst P ms (Some (slice_index_or ms i []))
+    some h = (
+      (i, h, same_at ms i (slice_index_or ms i []) [] h),
+      high i [] (omega arith) h,
+      λ m c p. elim (cases_lt c.0 i) [
+        | inl q ↦ absurd (low c.0 m (omega arith) q (subst P (sym c.2) p))
+        | inr q ↦ subst (IsAtOrBefore (slice_index_or ms i [])) c.2 (at_or_before ms i c.0 [] m a q c.1)
+      ],
+    )
+
+pub last_found : (P : Label → Type 0) (ms : List Label) (i : ℕ) (o : Option Label) → AllPairs IsBefore ms → AllWithin P ms 0 (i + 1) → AllWithin (λ m. P m → ⊥) ms (i + 1) (length ms) → i < length ms → o ≡ slice_get ms i → IsLast P ms o
+last_found P ms i o a low high h e = subst (IsLast P ms) (sym (e ∙ get_some ms i [] h)) (
+  (i, h, same_at ms i (slice_index_or ms i []) [] h),
+  low i [] (omega arith) (omega arith),
+  λ m c p. elim (cases_lt i c.0) [
+    | inl q ↦ absurd (high c.0 m (omega arith) c.1 (subst P (sym c.2) p))
+    | inr q ↦ subst (λ (x : Label). IsAtOrBefore x (slice_index_or ms i [])) c.2 (at_or_before ms c.0 i m [] a q h)
+  ],
+)
+
+pub none_found : (P : Label → Type 0) (ms : List Label) → AllWithin (λ m. P m → ⊥) ms 0 (length ms) → IsLast P ms None
+none_found P ms high = λ m c p. high c.0 m (omega arith) c.1 (subst P (sym c.2) p)
+
+-- ---- keyword lists
+
+pub in_order : (ms : List Label) → Ascends ms → AllPairs IsBefore ms
+in_order [] a = λ i j d h k. absurd (omega arith)
+in_order (m ∷ ms) a = AllPairs-cons IsBefore m ms (λ k d h. lt_before m (slice_index_or ms k d) (a.0 (slice_index_or ms k d) (within_of (slice_index_or ms k d) ms (k, h, same_at ms k (slice_index_or ms k d) d h)))) (in_order ms a.1)
+
+-- the list under a word is in document order
+list_ordered : (lists : BTreeMap Word (List Label)) (f : Trees Labelled) (w : Word) → AreOf lists f → AllPairs IsBefore (list_of w (worded f))
+list_ordered lists f w a = in_order (list_of w (worded f)) (list_ascends [] w (worded f) (formed f a.0))
+
+first_in : (P : Label → Type 0) (lists : BTreeMap Word (List Label)) (f : Trees Labelled) (w : Word) (ms : List Label) (i : ℕ) (o : Option Label) → AreOf lists f → ms ≡ list_in lists w
+    → (AllPairs IsBefore ms → IsPartitionPoint (λ m. P m → ⊥) P ms i) → o ≡ slice_get ms i → IsFirst P (list_of w (worded f)) o
+first_in P lists f w ms i o a e p q =
+    let here = e ∙ a.1 w in
+    let order : AllPairs IsBefore ms = subst (AllPairs IsBefore) (sym here) (list_ordered lists f w a) in
+    let t = p order in
+    subst (λ (list : List Label). IsFirst P list o) here (first_found P ms i o order t.0 t.1 q)
+
+pub next_in : (lists : BTreeMap Word (List Label)) (f : Trees Labelled) (w : Word) (v : Label) (ms : List Label) (i : ℕ) (o : Option Label) → AreOf lists f → ms ≡ list_in lists w
+    → (AllPairs IsBefore ms → IsPartitionPoint (λ m. IsAtOrBefore m v) (λ m. IsBefore v m) ms i) → o ≡ slice_get ms i → IsNext (list_of w (worded f)) v o
+next_in lists f w v ms i o a e p q = first_in (λ m. IsBefore v m) lists f w ms i o a e (λ s. let t = p s in (λ k d h r b. before_not v _ b (t.0 k d h r), t.1)) q
+
+pub right_in : (lists : BTreeMap Word (List Label)) (f : Trees Labelled) (w : Word) (v : Label) (ms : List Label) (i : ℕ) (o : Option Label) → AreOf lists f → ms ≡ list_in lists w
+    → (AllPairs IsBefore ms → IsPartitionPoint (λ m. IsBefore m v) (λ m. IsAtOrBefore v m) ms i) → o ≡ slice_get ms i → IsRight (list_of w (worded f)) v o
+right_in lists f w v ms i o a e p q = first_in (λ m. IsAtOrBefore v m) lists f w ms i o a e (λ s. let t = p s in (λ k d h r b. before_not _ v (t.0 k d h r) b, t.1)) q
+
+pub right_past_in : (lists : BTreeMap Word (List Label)) (f : Trees Labelled) (w : Word) (v : Label) (ms : List Label) (i : ℕ) (o : Option Label) → AreOf lists f → ms ≡ list_in lists w
+    → (AllPairs IsBefore ms → IsPartitionPoint (λ m. IsPast v m → ⊥) (λ m. IsPast v m) ms i) → o ≡ slice_get ms i → IsRightPast (list_of w (worded f)) v o
+right_past_in lists f w v ms i o a e p q = first_in (λ m. IsPast v m) lists f w ms i o a e p q
+
+-- the last of the first count
+pub left_in : (lists : BTreeMap Word (List Label)) (f : Trees Labelled) (w : Word) (v : Label) (ms : List Label) (count : ℕ) (o : Option Label) → AreOf lists f → ms ≡ list_in lists w
+    → count ≤ length ms → (AllPairs IsBefore ms → IsPartitionPoint (λ m. IsAtOrBefore m v) (λ m. IsBefore v m) ms count) → 0 < count → o ≡ slice_get ms (count - 1) → IsLeft (list_of w (worded f)) v o
+left_in lists f w v ms count o a e b p h q =
+    let here = e ∙ a.1 w in
+    let order : AllPairs IsBefore ms = subst (AllPairs IsBefore) (sym here) (list_ordered lists f w a) in
+    let t = p order in
+    subst (λ (list : List Label). IsLeft list v o) here
+    (last_found (λ m. IsAtOrBefore m v) ms (count - 1) o order (λ k d g r. t.0 k d g (omega arith)) (λ k d g r s. before_not v _ (t.1 k d (omega arith) r) s) (omega arith) q)
+
+pub none_in : (lists : BTreeMap Word (List Label)) (f : Trees Labelled) (w : Word) (v : Label) (ms : List Label) (count : ℕ) → AreOf lists f → ms ≡ list_in lists w
+    → (AllPairs IsBefore ms → IsPartitionPoint (λ m. IsAtOrBefore m v) (λ m. IsBefore v m) ms count) → count ≡ 0 → IsLeft (list_of w (worded f)) v None
+none_in lists f w v ms count a e p h =
+    let here = e ∙ a.1 w in
+    let order : AllPairs IsBefore ms = subst (AllPairs IsBefore) (sym here) (list_ordered lists f w a) in
+    let t = p order in
+    subst (λ (list : List Label). IsLeft list v None) here (none_found (λ m. IsAtOrBefore m v) ms (λ k d g r s. before_not v _ (t.1 k d (omega arith) r) s))

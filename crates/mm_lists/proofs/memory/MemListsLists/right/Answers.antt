@@ -1,0 +1,5 @@
+use Rattle.mm_lists.proofs.Lookups.{right_in}
+use Rattle.mm_lists.proofs.memory.MemListsLists.right.Goals as goal
+
+pub returns-clause-value : goal.returns-clause-value
+returns-clause-value g c = λ f a. right_in c.args.self.now.lists f c.args.word.now c.args.at.now c.list-list.result.now c.count_before.result c.in_ok-copied.field-0 a c.list-list.ensures c.count_before.ensures c.in_ok-copied.ensures

@@ -1,0 +1,3 @@
+pub mod Smallest
+pub mod Walking
+pub mod Cost

@@ -1,0 +1,28 @@
+-- What a search knows of the trees that it went through.
+use Rattle.std.specs.Prelude.{ℕ, Bool, ◌&&◌, ◌||◌, not, List, [], ◌∷◌, map, if◌then◌else◌, ℤ}
+use Rattle.mm_tree.specs.Trees.{Trees}
+use Rattle.mm_tree.specs.Search.{Worded, own, has, holds, is_full, some_full}
+use Rattle.mm_tree.specs.declared.node.Node.{Node}
+use Rattle.mm_tree.specs.declared.node.Node.TheViews.{out-Node}
+
+-- flags, and those of others that stand in the same places
+abbrev pub either : List Bool → List Bool → List Bool
+either [] others = []
+either (flag ∷ flags) [] = flag ∷ flags
+either (flag ∷ flags) (other ∷ others) = (flag || other) ∷ either flags others
+
+-- for each word of the query, whether it is one of a node's in these trees
+abbrev pub held : List (List ℕ) → Trees Worded → List Bool
+held query trees = map (λ w. holds w trees) query
+
+-- for each word of the query, whether it is one of the node's own, or of a node's below it
+abbrev pub held_by : List (List ℕ) → Worded → Trees Worded → List Bool
+held_by query e inner = map (λ w. has e w || holds w inner) query
+
+-- the node's label, where it is full and none of its children is
+abbrev pub own_answer : List (List ℕ) → Worded → Trees Worded → List (List ℤ)
+own_answer query e inner = if is_full query e inner && not (some_full query inner) then e.label ∷ [] else []
+
+-- a node of the program as searches see it
+abbrev pub worded_node : Node → Worded
+worded_node n = record { label = (out-Node n).label; words = own (out-Node n).kind }
