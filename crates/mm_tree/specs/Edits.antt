@@ -64,7 +64,7 @@ abbrev pub edit : Change → List ℤ → Trees Labelled → Trees Labelled
 edit f x none = none
 edit f x (node e inner rest) = if has_label x e then f e inner rest else node e (edit f x inner) (edit f x rest)
 
--- ---- where a new tree goes
+-- ---- where a new tree goes: its label lies between those of its neighbours, and no other label changes, as in ORDPATH (SIGMOD 2004)
 
 -- the labels around the new root: its parent's, or nothing on top, and those of its neighbours
 pub record Gap : Type 0 where
