@@ -6,7 +6,7 @@ use Rattle.mm_label.specs.Label.{whole}
 use Rattle.mm_tree.specs.Trees.{Trees, none, node}
 use Rattle.mm_lists.specs.Fronts.{Word}
 use Rattle.mm_tree.specs.Search.{Worded, has, list_of, lists_of}
-use Rattle.mm_lists.specs.Formed.{WellFormed}
+use Rattle.mm_lists.proofs.Formed.{WellFormed}
 use Rattle.mm_lists.proofs.FrontLaws.{front_refl, front_le, below_apart}
 use Rattle.mm_lists.proofs.Below.{NodeOf, node_below, node_after, within_joined}
 

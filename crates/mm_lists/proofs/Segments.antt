@@ -14,7 +14,7 @@ use Rattle.mm_tree.specs.Numbering.{Labelled}
 use Rattle.mm_tree.specs.Forests.{segment_below, rises, is_child_label, are_labelled, is_well_formed}
 use Rattle.mm_tree.specs.Search.{worded}
 use Rattle.mm_lists.specs.Fronts.{Label, Front, Le, Lt, Apart}
-use Rattle.mm_lists.specs.Formed.{IsChild, RootsAfter, WellFormed}
+use Rattle.mm_lists.proofs.Formed.{IsChild, RootsAfter, WellFormed}
 use Rattle.mm_lists.proofs.FrontLaws.{kept, le_trans, le_antisym, front_refl, front_le}
 use Rattle.mm_lists.proofs.Ties.{before_lt}
 

@@ -1,5 +1,7 @@
 ghost use Rattle.std.specs.Prelude.{◌≡◌, ◌<◌, [], IfOk};
 ghost use Rattle.mm_tree.specs.declared.plain.Kind.TheVariants.{Element, Words};
+ghost use Rattle.mm_tree.specs.Numbering.{forest_of};
+ghost use Rattle.mm_tree.specs.Search.{slca, worded};
 ghost use Rattle.mm_tree.specs.Trees.{none, one, tree_of, trees_of};
 ghost use Rattle.mm_tree.specs.Examples.{bibliography, book, titled};
 
@@ -88,6 +90,7 @@ fn joined(alloc: Global, labels: &[Label]) -> Result<String, AllocError> {
     Ok(all)
 }
 
+/// What is found is what the definition says.
 fn counted<L: Ledger>(
     alloc: Global,
     blank: Blank,
@@ -97,6 +100,7 @@ fn counted<L: Ledger>(
     requires name { blank.name ≡ L.name }
     requires parts { blank.parts ≡ L.parts }
     requires some { 0 < blank.parts }
+    ensures { IfOk result (λ labels. labels ≡ slca query.now (worded (forest_of forest.now))) }
 {
     let mut steps = Steps::<L>::new(blank);
     let mut lists = MemLists::of(alloc, forest)?;
