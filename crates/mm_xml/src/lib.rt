@@ -1,13 +1,18 @@
-//! Reads XML, after the productions of XML 1.0, fifth edition, in a small profile: one element, elements
-//! without attributes, names of ASCII letters and digits, and text of printable ASCII.
+//! Reads and writes XML, after the productions of XML 1.0, fifth edition.
 #![tactic(auto)]
 
+mod attribute;
+mod builder;
+mod decode;
 mod error;
 pub mod laws;
+mod letters;
+mod lexeme;
+mod order;
 mod outline;
 mod reader;
+mod reference;
 mod stack;
-mod token;
 mod writer;
 
 pub use error::XmlError;

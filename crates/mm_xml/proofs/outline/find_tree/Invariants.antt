@@ -1,0 +1,12 @@
+use Rattle.std.proofs.Common.{◌≡◌, ◌+◌, ◌-◌, ◌≤◌, length}
+use Rattle.mm_xml.specs.Outlines.{outline_from, outline_as}
+use Rattle.mm_xml.specs.Builds.{outline_of, order_of}
+use Rattle.mm_xml.proofs.outline.find_tree.Given as goal
+
+-- what is found from here on is what is found from the start
+abbrev pub invariant-loop : goal.invariant-loop
+invariant-loop l = record {
+  same : outline_from (length l.cs - l.counter) (outline_of l.outline) l.blank (order_of l.order) l.rest ≡ outline_as (order_of l.fn.order) l.cs;
+  depth : l.order.depth ≤ l.counter + 1;
+  squares : l.order.squares ≤ l.counter;
+}

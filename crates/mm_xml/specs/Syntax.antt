@@ -1,0 +1,116 @@
+-- The pieces of concrete syntax, and how each is spelled.
+use Rattle.std.specs.Prelude.{ℕ, List, [], ◌∷◌, ◌++◌, Bool, true, false, ◌&&◌, ◌||◌, not, ◌==◌, Option, Some, None, if◌then◌else◌, map}
+use Rattle.std.specs.List.{flat_map, list_all}
+use Rattle.std.specs.Str.{bytes_eq, encode_utf8_all}
+use Rattle.mm_tree.specs.declared.Attribute.{Attribute}
+use Rattle.mm_tree.specs.Validity.{are_distinct}
+use Rattle.mm_tree.specs.Characters.{is_char, is_space, is_name, is_short_name}
+use Rattle.mm_xml.specs.Letters.{is_gap, referred, is_free, lower}
+
+-- a character of a text or of a value: itself, or by a reference
+pub data Part : Type 0 where
+  Literal : ℕ → Part
+  Reference : List ℕ → Part
+
+abbrev pub not_semicolon : ℕ → Bool
+not_semicolon c = not (c == 59)
+
+-- neither `<` nor `&`
+abbrev pub is_literal : ℕ → Bool
+is_literal c = is_char c && not (c == 60) && not (c == 38)
+
+abbrev pub is_some : Option ℕ → Bool
+is_some None = false
+is_some (Some c) = true
+
+abbrev pub is_part : Part → Bool
+is_part (Literal c) = is_literal c
+is_part (Reference body) = list_all not_semicolon body && is_some (referred body)
+
+abbrev pub spelled_part : Part → List ℕ
+spelled_part (Literal c) = c ∷ []
+spelled_part (Reference body) = 38 ∷ body ++ 59 ∷ []
+
+-- an attribute as it is written
+pub record Written : Type 0 where
+  pub gap : List ℕ
+  pub name : List ℕ
+  pub before : List ℕ
+  pub after : List ℕ
+  pub quote : ℕ
+  pub parts : List Part
+
+abbrev pub is_quote : ℕ → Bool
+is_quote c = (c == 34) || (c == 39)
+
+-- a part of a value in these quotes
+abbrev pub is_within : ℕ → Part → Bool
+is_within quote (Literal c) = is_literal c && not (c == quote)
+is_within quote (Reference body) = is_part (Reference body)
+
+abbrev pub is_written : Written → Bool
+is_written a = is_gap a.gap && (is_short_name a.name && (list_all is_space a.before && (list_all is_space a.after && (is_quote a.quote && list_all (is_within a.quote) a.parts))))
+
+abbrev pub spelled_written : Written → List ℕ
+spelled_written a = a.gap ++ (a.name ++ (a.before ++ (61 ∷ (a.after ++ (a.quote ∷ (flat_map spelled_part a.parts ++ a.quote ∷ []))))))
+
+-- the characters of the reference, none where there is no such reference
+abbrev pub named : Option ℕ → List ℕ
+named None = []
+named (Some c) = c ∷ []
+
+abbrev pub meant : Part → List ℕ
+meant (Literal c) = c ∷ []
+meant (Reference body) = named (referred body)
+
+-- in a value a literal white space is a space
+abbrev pub meant_in_value : Part → List ℕ
+meant_in_value (Literal c) = (if is_space c then 32 else c) ∷ []
+meant_in_value (Reference body) = named (referred body)
+
+abbrev pub attribute_of : Written → Attribute
+attribute_of a = record { name = encode_utf8_all a.name; value = encode_utf8_all (flat_map meant_in_value a.parts) }
+
+-- no two attributes have one name
+abbrev pub differ : List Attribute → Bool
+differ attributes = are_distinct (map (λ a. a.name) attributes)
+
+pub data Token : Type 0 where
+  Data : Part → Token
+  Section : List ℕ → Token
+  Comment : List ℕ → Token
+  Instruction : List ℕ → List ℕ → Token
+  Start : Bool → List ℕ → List Written → List ℕ → Token
+  Close : List ℕ → List ℕ → Token
+
+-- this letter, in either case
+abbrev pub letter_is : ℕ → ℕ → Bool
+letter_is letter c = lower c == letter
+
+-- nothing, or white space and more
+abbrev pub is_rest : List ℕ → Bool
+is_rest [] = true
+is_rest (c ∷ cs) = is_space c && list_all is_char cs
+
+-- `xml`, in any case
+abbrev pub is_reserved : List ℕ → Bool
+is_reserved name = bytes_eq (map lower name) (120 ∷ 109 ∷ 108 ∷ [])
+
+abbrev pub is_token : Token → Bool
+is_token (Data p) = is_part p
+is_token (Section cs) = list_all is_char cs && is_free (93 ∷ 93 ∷ 62 ∷ []) cs
+is_token (Comment cs) = list_all is_char cs && is_free (45 ∷ 45 ∷ []) cs
+is_token (Instruction name cs) = is_name name && (not (is_reserved name) && (is_rest cs && is_free (63 ∷ 62 ∷ []) cs))
+is_token (Start empty name attributes gap) = is_short_name name && (list_all is_written attributes && (differ (map attribute_of attributes) && list_all is_space gap))
+is_token (Close name gap) = is_short_name name && list_all is_space gap
+
+abbrev pub ending : Bool → List ℕ
+ending empty = if empty then 47 ∷ 62 ∷ [] else 62 ∷ []
+
+abbrev pub spelled : Token → List ℕ
+spelled (Data p) = spelled_part p
+spelled (Section cs) = 60 ∷ 33 ∷ 91 ∷ 67 ∷ 68 ∷ 65 ∷ 84 ∷ 65 ∷ 91 ∷ (cs ++ 93 ∷ 93 ∷ 62 ∷ [])
+spelled (Comment cs) = 60 ∷ 33 ∷ 45 ∷ 45 ∷ (cs ++ 45 ∷ 45 ∷ 62 ∷ [])
+spelled (Instruction name cs) = 60 ∷ 63 ∷ (name ++ (cs ++ 63 ∷ 62 ∷ []))
+spelled (Start empty name attributes gap) = 60 ∷ (name ++ (flat_map spelled_written attributes ++ (gap ++ ending empty)))
+spelled (Close name gap) = 60 ∷ 47 ∷ (name ++ (gap ++ 62 ∷ []))

@@ -1,0 +1,194 @@
+ghost use Rattle.std.specs.Prelude.{◌≡◌, [], ◌∷◌, length, map, IfOk};
+ghost use Rattle.mm_xml.specs.Letters.{lower as lower_is};
+ghost use Rattle.mm_xml.specs.Syntax.{is_reserved as reserved_is, is_rest as rest_is, letter_is};
+ghost use Rattle.mm_xml.specs.Lexing.{after as after_at, ending_at, start_at, close_at, comment_at, section_at, instruction_at, marked_at, markup_at, token_at};
+ghost use Rattle.mm_xml.specs.Telling.{tell, sign_at};
+ghost use Rattle.mm_xml.specs.Lexemes.{Finds, Gets, Skips};
+
+use crate::attribute::{are_distinct, attributes_of, is_name, is_short_name, text_of};
+use crate::letters::{after, are_chars, is_space, name_span, space_span, strip, up_to};
+use crate::reference::{Part, part_of};
+use mm_tree::{Attributes, Text};
+use std::alloc::{AllocError, Global};
+
+/// What stands at the front of the rest: a character of character data, itself or by a reference; the
+/// characters of a section; a comment or an instruction, which are read over; the tag before an element,
+/// or of an empty one; the tag behind an element.
+#[derive(Drop)]
+pub enum Lexeme<'a> {
+    Character(char),
+    Named(char),
+    Section(&'a [char]),
+    Skipped,
+    Open(bool, Text, Attributes),
+    Close(Text),
+}
+
+/// Where a start tag ends: whether its element is empty, and what comes after it.
+fn ending_of(cs: &[char]) -> Option<(bool, &[char])>
+    ensures { Gets result (ending_at cs.now) }
+{
+    match cs {
+        ['>', rest @ ..] => Some((false, rest)),
+        ['/', rest @ ..] => match after('>', rest) {
+            Some(rest) => Some((true, rest)),
+            None => None,
+        },
+        _ => None,
+    }
+}
+
+/// A start tag from its name on.
+#[tactic(auto, unfolding(crate::specs::Lexing::start_at))]
+fn start_of(alloc: Global, cs: &[char]) -> Result<Option<(Lexeme<'_>, &[char])>, AllocError>
+    ensures { IfOk result (λ r. Finds r (tell (start_at cs.now))) }
+{
+    let (name, rest) = name_span(cs);
+    if !is_short_name(name) {
+        return Ok(None);
+    }
+    let Some((attributes, rest)) = attributes_of(alloc, rest)? else {
+        return Ok(None);
+    };
+    if !are_distinct(alloc, attributes.as_slice())? {
+        return Ok(None);
+    }
+    let (_, rest) = space_span(rest);
+    let Some((empty, rest)) = ending_of(rest) else {
+        return Ok(None);
+    };
+    let name = text_of(alloc, name)?;
+    Ok(Some((Lexeme::Open(empty, name, attributes), rest)))
+}
+
+/// What comes after `</`.
+#[tactic(auto, unfolding(crate::specs::Lexing::close_at))]
+fn close_of(alloc: Global, cs: &[char]) -> Result<Option<(Lexeme<'_>, &[char])>, AllocError>
+    ensures { IfOk result (λ r. Finds r (tell (close_at cs.now))) }
+{
+    let (name, rest) = name_span(cs);
+    if !is_short_name(name) {
+        return Ok(None);
+    }
+    let (_, rest) = space_span(rest);
+    let Some(rest) = after('>', rest) else {
+        return Ok(None);
+    };
+    Ok(Some((Lexeme::Close(text_of(alloc, name)?), rest)))
+}
+
+/// What comes after a comment, of which `<!--` is read.
+#[tactic(auto, unfolding(crate::specs::Lexing::comment_at))]
+fn comment_of(cs: &[char]) -> Option<&[char]>
+    ensures { Skips result (tell (comment_at cs.now)) }
+{
+    let (text, rest) = up_to(cs, ['-', '-'].as_slice())?;
+    if are_chars(text) {
+        after('>', rest)
+    } else {
+        None
+    }
+}
+
+/// What comes after `<![CDATA[`.
+#[tactic(auto, unfolding(crate::specs::Lexing::section_at))]
+fn section_of(cs: &[char]) -> Option<(Lexeme<'_>, &[char])>
+    ensures { Finds result (tell (section_at cs.now)) }
+{
+    let (text, rest) = up_to(cs, [']', ']', '>'].as_slice())?;
+    if are_chars(text) {
+        Some((Lexeme::Section(text), rest))
+    } else {
+        None
+    }
+}
+
+/// Whether a name is `xml`, in any case.
+fn is_reserved(name: &[char]) -> bool
+    ensures { result ≡ reserved_is name.now }
+{
+    match name {
+        [x, m, l] => is_letter('x', *x) && is_letter('m', *m) && is_letter('l', *l),
+        _ => false,
+    }
+}
+
+/// Whether a character is this letter, in either case.
+fn is_letter(letter: char, c: char) -> bool
+    ensures { result ≡ letter_is letter c }
+{
+    c.to_ascii_lowercase() == letter
+}
+
+/// Whether an instruction has nothing behind its name, or white space and more.
+fn is_rest(cs: &[char]) -> bool
+    ensures { result ≡ rest_is cs.now }
+{
+    match cs {
+        [] => true,
+        [c, rest @ ..] => is_space(*c) && are_chars(rest),
+    }
+}
+
+/// What comes after an instruction, of which `<?` is read.
+#[tactic(auto, unfolding(crate::specs::Lexing::instruction_at))]
+fn instruction_of(cs: &[char]) -> Option<&[char]>
+    ensures { Skips result (tell (instruction_at cs.now)) }
+{
+    let (name, rest) = name_span(cs);
+    if !is_name(name) || is_reserved(name) {
+        return None;
+    }
+    let (text, rest) = up_to(rest, ['?', '>'].as_slice())?;
+    if is_rest(text) { Some(rest) } else { None }
+}
+
+/// What comes after `<!`.
+#[tactic(auto, unfolding(crate::specs::Lexing::marked_at))]
+fn marked_of(cs: &[char]) -> Option<(Lexeme<'_>, &[char])>
+    ensures { Finds result (tell (marked_at cs.now)) }
+{
+    if let Some(rest) = strip(cs, ['-', '-'].as_slice()) {
+        return match comment_of(rest) {
+            Some(rest) => Some((Lexeme::Skipped, rest)),
+            None => None,
+        };
+    }
+    match strip(cs, ['[', 'C', 'D', 'A', 'T', 'A', '['].as_slice()) {
+        Some(rest) => section_of(rest),
+        None => None,
+    }
+}
+
+/// What comes after `<`.
+#[tactic(auto, unfolding(crate::specs::Lexing::markup_at))]
+fn markup_of(alloc: Global, cs: &[char]) -> Result<Option<(Lexeme<'_>, &[char])>, AllocError>
+    ensures { IfOk result (λ r. Finds r (tell (markup_at cs.now))) }
+{
+    match cs {
+        ['/', rest @ ..] => close_of(alloc, rest),
+        ['!', rest @ ..] => Ok(marked_of(rest)),
+        ['?', rest @ ..] => match instruction_of(rest) {
+            Some(rest) => Ok(Some((Lexeme::Skipped, rest))),
+            None => Ok(None),
+        },
+        [_, ..] => start_of(alloc, cs),
+        [] => Ok(None),
+    }
+}
+
+/// The lexeme at the front, and the characters after it.
+#[tactic(auto, unfolding(crate::specs::Lexing::token_at))]
+pub fn next_lexeme(alloc: Global, cs: &[char]) -> Result<Option<(Lexeme<'_>, &[char])>, AllocError>
+    ensures { IfOk result (λ r. Finds r (sign_at cs.now)) }
+{
+    match cs {
+        ['<', rest @ ..] => markup_of(alloc, rest),
+        [_, ..] => match part_of(cs) {
+            Some((Part::Itself(c), rest)) => Ok(Some((Lexeme::Character(c), rest))),
+            Some((Part::Named(c), rest)) => Ok(Some((Lexeme::Named(c), rest))),
+            None => Ok(None),
+        },
+        [] => Ok(None),
+    }
+}
