@@ -19,13 +19,12 @@ use Rattle.mm_lists.specs.Memory.{list_in}
 bytes_turned : (v w : Word) → bytes_eq v w ≡ true → bytes_eq w v ≡ true
 bytes_turned v w e = (bytes_eq-Decides w v).1 (sym ((bytes_eq-Decides v w).0 e))
 
--- a list is taken out, a label put behind it, and the list put back
-pub put_is : (old mid new : BTreeMap Word (List Label)) (word : Word) (list more : List Label) (label : Label)
+-- a label is put behind the list of the word
+pub put_is : (old new : BTreeMap Word (List Label)) (word : Word) (list more : List Label) (label : Label)
     → list ≡ list_in old word → more ≡ list ++ label ∷ []
-    → ((q : Word) → get (slice_cmp nat_cmp) mid q ≡ cond (is_eq (slice_cmp nat_cmp word q)) None (get (slice_cmp nat_cmp) old q))
-    → ((q : Word) → get (slice_cmp nat_cmp) new q ≡ cond (is_eq (slice_cmp nat_cmp word q)) (Some more) (get (slice_cmp nat_cmp) mid q))
+    → ((q : Word) → get (slice_cmp nat_cmp) new q ≡ cond (is_eq (slice_cmp nat_cmp word q)) (Some more) (get (slice_cmp nat_cmp) old q))
     → (w : Word) → list_in new w ≡ list_in old w ++ cond (bytes_eq w word) (label ∷ []) []
-put_is old mid new word list more label a b f g w = by (is_eq (slice_cmp nat_cmp word w)) refl
+put_is old new word list more label a b f w = by (is_eq (slice_cmp nat_cmp word w)) refl
   where
     here : is_eq (slice_cmp nat_cmp word w) ≡ bytes_eq word w
     here = is_eq-slice_cmp word w
@@ -42,15 +41,13 @@ put_is old mid new word list more label a b f g w = by (is_eq (slice_cmp nat_cmp
     by true e =
         let p : bytes_eq word w ≡ true = sym here ∙ e in
         let q : word ≡ w = (bytes_eq-Decides word w).0 p in
-        let k : get (slice_cmp nat_cmp) new w ≡ Some more = g w ∙ ap (λ (t : Bool). cond t (Some more) (get (slice_cmp nat_cmp) mid w)) e in
+        let k : get (slice_cmp nat_cmp) new w ≡ Some more = f w ∙ ap (λ (t : Bool). cond t (Some more) (get (slice_cmp nat_cmp) old w)) e in
         ap (λ (o : Option (List Label)). unwrap_or o []) k
         ∙ (b ∙ (ap (λ (z : List Label). z ++ label ∷ []) (a ∙ ap (list_in old) q)
         ∙ ap (λ (t : Bool). list_in old w ++ cond t (label ∷ []) []) (sym (turned true p))))
     by false e =
         let p : bytes_eq word w ≡ false = sym here ∙ e in
-        let k : get (slice_cmp nat_cmp) new w ≡ get (slice_cmp nat_cmp) old w = g w
-        ∙ (ap (λ (t : Bool). cond t (Some more) (get (slice_cmp nat_cmp) mid w)) e
-        ∙ (f w ∙ ap (λ (t : Bool). cond t None (get (slice_cmp nat_cmp) old w)) e)) in
+        let k : get (slice_cmp nat_cmp) new w ≡ get (slice_cmp nat_cmp) old w = f w ∙ ap (λ (t : Bool). cond t (Some more) (get (slice_cmp nat_cmp) old w)) e in
         ap (λ (o : Option (List Label)). unwrap_or o []) k
         ∙ (sym (append-nil (list_in old w)) ∙ ap (λ (t : Bool). list_in old w ++ cond t (label ∷ []) []) (sym (turned false p)))
 
@@ -106,3 +103,9 @@ fewer_left left rest x n m e f g = let t : length left ≡ length (x ∷ rest) =
 
 pub tail_rises : (left rest : List Word) (x : Word) → IsStrictlySortedBy (slice_cmp nat_cmp) left → left ≡ x ∷ rest → IsStrictlySortedBy (slice_cmp nat_cmp) rest
 tail_rises left rest x s e = sorted_tail (slice_cmp nat_cmp) x rest (subst (IsStrictlySortedBy (slice_cmp nat_cmp)) e s)
+
+pub found_list : (lists : BTreeMap Word (List Label)) (word : Word) (list : List Label) → Some list ≡ get (slice_cmp nat_cmp) lists word → list ≡ list_in lists word
+found_list lists word list e = ap (λ (o : Option (List Label)). unwrap_or o []) e
+
+pub no_list : (lists : BTreeMap Word (List Label)) (word : Word) (list : List Label) → None ≡ get (slice_cmp nat_cmp) lists word → list ≡ [] → list ≡ list_in lists word
+no_list lists word list e k = k ∙ ap (λ (o : Option (List Label)). unwrap_or o []) e

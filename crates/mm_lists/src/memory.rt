@@ -31,7 +31,11 @@ type ByWord = BTreeMap<Word, Items<Label>>;
 fn put(alloc: Global, lists: &mut ByWord, word: Word, label: Label) -> Result<(), AllocError>
     ensures { OnOk result ((w : List ℕ) → list_in lists.new w ≡ list_in lists.old w ++ (if bytes_eq w word then label ∷ [] else [])) }
 {
-    let mut list = lists.remove(&word).unwrap_or(Items::new(alloc));
+    if let Some(list) = lists.get_mut(&word) {
+        list.push(label)?;
+        return Ok(());
+    }
+    let mut list = Items::new(alloc);
     list.push(label)?;
     lists.insert(word, list)?;
     Ok(())

@@ -1,10 +1,20 @@
-use Rattle.std.proofs.Common.{ap, ◌∙◌, List, Option, []}
-use Rattle.std.specs.Prelude.{unwrap_or}
-use Rattle.mm_lists.specs.Fronts.{Label}
-use Rattle.mm_lists.proofs.Gathering.{put_is}
+use Rattle.std.proofs.Common.{◌≡◌, List, Some, cond, subst, refl}
+use Rattle.std.specs.BTreeMap.{BTreeMap, get}
+use Rattle.std.specs.Ordering.{nat_cmp, is_eq}
+use Rattle.std.specs.Cmp.Lexicographic.{slice_cmp}
+use Rattle.mm_lists.specs.Fronts.{Label, Word}
+use Rattle.std.specs.Prelude.{IsSome}
+use Rattle.mm_lists.proofs.Gathering.{put_is, found_list, no_list}
 use Rattle.mm_lists.proofs.memory.put.Goals as goal
 
+pub returns-in-Some : goal.returns-in-Some
+returns-in-Some c =
+    let h = c.get_mut.follows.holds c.push.new.self in
+    let v = c.in-Some.ensures.value in
+    put_is c.args.lists.now (c.get_mut.follows.lender c.push.new.self) c.args.word c.in-Some.list.now c.push.new.self c.args.label (found_list c.args.lists.now c.args.word c.in-Some.list.now v) c.in_ok-push.ensures.ok (h.3 (subst IsSome v refl)).0
+
 pub returns : goal.returns
-returns c = put_is c.args.lists.now c.remove.new.self c.insert.new.self c.args.word c.unwrap_or-list.result c.push.new.self c.args.label
-    (c.unwrap_or-list.ensures ∙ (ap (λ (d : List Label). unwrap_or c.remove.result d) c.new.ensures ∙ ap (λ (o : Option (List Label)). unwrap_or o []) c.remove.ensures.value))
-    c.in_ok-push.ensures.ok c.remove.ensures.updates.0 c.in_ok-insert.ensures.updates.0
+returns c =
+    let same : c.get_mut.follows.lender-at-none ≡ c.args.lists.now = c.get_mut.follows.holds-at-none in
+    put_is c.args.lists.now c.insert.new.self c.args.word c.new-list.result c.push-2.new.self c.args.label (no_list c.args.lists.now c.args.word c.new-list.result c.in_default.ensures.value c.new-list.ensures) c.in_ok-push-2.ensures.ok
+    (subst (λ (m : BTreeMap Word (List Label)). (q : Word) → get (slice_cmp nat_cmp) c.insert.new.self q ≡ cond (is_eq (slice_cmp nat_cmp c.args.word q)) (Some c.push-2.new.self) (get (slice_cmp nat_cmp) m q)) same c.in_ok-insert.ensures.updates.0)
