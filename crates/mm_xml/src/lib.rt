@@ -4,6 +4,7 @@
 mod attribute;
 mod builder;
 mod decode;
+mod doctype;
 mod error;
 pub mod laws;
 mod letters;
