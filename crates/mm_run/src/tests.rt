@@ -112,7 +112,8 @@ fn lines_and_payloads_are_answered(rt: HostRuntime) -> Result<(), Fail> {
         // A full stop in front is dropped, and a line of two doesn't end a payload.
         (b"load\n.<a>\n..\n</a>\n.\n", b"ok 1 2\n"),
         // The lines of a payload are joined by line feeds, with none at the end.
-        (b"load\n<a\n/>\n.\n", b"no 19 xml\n"),
+        (b"load\n<a\n/>\n.\n", b"ok 1 1\n"),
+        (b"load\n<\na/>\n.\n", b"no 19 xml\n"),
         (b"load\n.\n", b"no 19 xml\n"),
         // A text is no tree of a forest.
         (b"load\nagain\n.\n", b"no 20 top\n"),

@@ -84,10 +84,10 @@ space_no_name d h =
       ] refl
     ] refl
 
-name_char_no_space : (d : ℕ) → is_name_char d ≡ true → is_space d ≡ false
+pub name_char_no_space : (d : ℕ) → is_name_char d ≡ true → is_space d ≡ false
 name_char_no_space d h = elim (is_space d) as (λ b. is_space d ≡ b → b ≡ false) [ true ↦ λ e. let z = space_no_name d e in absurd cc | false ↦ λ e. refl ] refl
 
-start_is : (c : ℕ) → is_name_start c ≡ true → is_name_char c ≡ true
+pub start_is : (c : ℕ) → is_name_start c ≡ true → is_name_char c ≡ true
 start_is c h = rw h refl
 
 pub name_chars : (name : List ℕ) → is_name name ≡ true → list_all is_name_char name ≡ true
@@ -99,7 +99,7 @@ name_chars (c ∷ cs) h =
 pub short_chars : (name : List ℕ) → is_short_name name ≡ true → list_all is_name_char name ≡ true
 short_chars name h = name_chars name (both (is_name name) _ h).0
 
-quote_no_space : (q : ℕ) → is_quote q ≡ true → is_space q ≡ false
+pub quote_no_space : (q : ℕ) → is_quote q ≡ true → is_space q ≡ false
 quote_no_space q h =
     elim (eqb q 34) as (λ b. eqb q 34 ≡ b → is_space q ≡ false) [
       | true ↦ λ e. ap is_space (eqb-true q 34 e)

@@ -1,5 +1,5 @@
 -- The loop that builds the tree.
-use Rattle.std.proofs.Common.{◌≡◌, ℕ, zero, suc, ◌-◌, ◌<◌, ◌≤◌, Bool, true, false, cond, List, [], ◌∷◌, length, Option, Some, None, refl, sym, ap, subst, ◌∙◌, arith, eqb}
+use Rattle.std.proofs.Common.{◌≡◌, ℕ, zero, suc, ◌-◌, ◌≤◌, Bool, true, false, cond, List, [], ◌∷◌, length, Option, Some, None, refl, sym, ap, subst, ◌∙◌, arith, eqb}
 use Rattle.std.specs.Prelude.{Result, Ok, Err}
 use Rattle.mm_tree.specs.declared.Kind.{Kind}
 use Rattle.mm_tree.specs.declared.Plain.{Plain}
@@ -8,10 +8,10 @@ use Rattle.mm_xml.specs.declared.error.XmlError.{XmlError}
 use Rattle.mm_xml.specs.declared.error.XmlError.TheVariants as error
 use Rattle.mm_xml.specs.Lexing.{◌>>=◌, Found, token_at}
 use Rattle.mm_xml.specs.Telling.{Sign, sign_at}
-use Rattle.mm_xml.specs.Machine.{State, Before, cleared, finish_step, sign_step, deepest_of, Order, sign_may, sign_next, read_from, read_as}
+use Rattle.mm_xml.specs.Machine.{State, Before, finish_step, sign_step, deepest_of, Order, sign_may, sign_next, read_from, read_as}
 use Rattle.mm_xml.specs.Answers.{most_levels}
-use Rattle.mm_xml.specs.Builds.{PlaceFails, AdvanceFails, FinishFails, Finishes, Gives}
-use Rattle.mm_xml.proofs.Spans.{no, some_is, bind_some}
+use Rattle.mm_xml.specs.Builds.{AdvanceFails, FinishFails, Finishes, Gives}
+use Rattle.mm_xml.proofs.Spans.{no, bind_some}
 use Rattle.mm_xml.proofs.Levels.{read_deep}
 use Rattle.mm_xml.proofs.OutlineFacts.{on_state}
 
@@ -66,15 +66,6 @@ same_end (suc k) s run order rest e = rw e refl
 pub ends : (r : Result Plain XmlError) (k : ℕ) (s : State) (run : List ℕ) (order start : Order) (rest cs : List ℕ) → Finishes r s (finish_step s run) → rest ≡ [] → read_from k s run order rest ≡ read_as start cs → deepest_of s ≤ most_levels → Gives r (read_as start cs)
 ends (Ok p) k s run order start rest cs h empty same few = (sym (same_end k s run order rest empty ∙ same) ∙ h.0, h.1 few)
 ends (Err e) k s run order start rest cs h empty same few = subst (λ (x : Option (Tree Kind)). FinishFails e x) (same_end k s run order rest empty ∙ same) h
-
--- ---- one lexeme
-
-pub cleared_fails : (e : XmlError) (moved : Option State) → PlaceFails e moved → AdvanceFails e (moved >>= cleared)
-cleared_fails error.NotXml moved h = ap (λ o. o >>= cleared) h
-cleared_fails error.TooDeep moved h = λ y e.
-    let b = bind_some moved cleared y e in
-    subst (λ (x : State). most_levels < deepest_of x) (ap (λ (x : State × List ℕ). x.0) (some_is (b.0, []) y b.2)) (h b.0 b.1)
-cleared_fails error.Memory moved h = tt
 
 pub nothing_left : (rest : List ℕ) (b : Bool) → b ≡ eqb (length rest) 0 → b ≡ true → rest ≡ []
 nothing_left [] b e h = refl

@@ -4,11 +4,12 @@ use Rattle.std.specs.List.{list_all, flat_map}
 use Rattle.std.proofs.lemmas.Bool.{eqb-true}
 use Rattle.mm_tree.specs.Characters.{is_space, is_name_start, is_name_char, is_name, is_short_name}
 use Rattle.mm_xml.specs.Letters.{starts}
-use Rattle.mm_xml.specs.Syntax.{Part, Literal, Reference, is_literal, spelled_written, Token, Data, Section, Comment, Instruction, Start, Close, ending, is_token, spelled}
-use Rattle.mm_xml.specs.Lexing.{◌>>=◌, Found, span, after, part_at, start_at, close_at, comment_at, section_at, instruction_at, two_dashes, section_start, marked_at, markup_at, token_at}
+use Rattle.mm_xml.specs.Syntax.{Part, Literal, Reference, is_literal, spelled_written, Token, Data, Section, Comment, Instruction, Start, Close, Doctype, ending, is_token, spelled}
+use Rattle.mm_xml.specs.Lexing.{◌>>=◌, Found, span, after, part_at, start_at, close_at, comment_at, section_at, instruction_at, two_dashes, section_start, doctype_start, doctype_at, marked_at, markup_at, token_at}
 use Rattle.mm_xml.proofs.Spans.{taken, chosen, some, no, some_is, bind_some, both, both_true, span_whole, span_all, span_again, after_takes, starts_takes}
 use Rattle.mm_xml.proofs.Parts.{part_takes, part_again}
 use Rattle.mm_xml.proofs.Attributes.{short_chars, not_space_stops, space_no_name}
+use Rattle.mm_xml.proofs.DoctypeFacts.{doctype_takes, doctype_again}
 use Rattle.mm_xml.proofs.Tags.{Takes, start_takes, start_again, comment_takes, comment_again, section_takes, section_again, instruction_takes, instruction_again}
 
 close_takes : (cs : List ℕ) (x : Token × List ℕ) → close_at cs ≡ Some x → Takes (60 ∷ 47 ∷ cs) x
@@ -47,11 +48,14 @@ close_again name gap rest h =
 marked_takes : (cs : List ℕ) (x : Token × List ℕ) → marked_at cs ≡ Some x → Takes (60 ∷ 33 ∷ cs) x
 unfolding marked_at
 marked_takes cs x e =
-    elim (chosen (starts two_dashes cs) (comment_at (drop 2 cs)) (cond (starts section_start cs) (section_at (drop 7 cs)) no) (Some x) e) [
+    elim (chosen (starts two_dashes cs) (comment_at (drop 2 cs)) (cond (starts section_start cs) (section_at (drop 7 cs)) (cond (starts doctype_start cs) (doctype_at (drop 7 cs)) no)) (Some x) e) [
       | inl w ↦ subst (λ (r : List ℕ). Takes (60 ∷ 33 ∷ r) x) (sym (starts_takes two_dashes cs w.0)) (comment_takes (drop 2 cs) x w.1)
-      | inr w ↦
-          let t = taken (starts section_start cs) (section_at (drop 7 cs)) x w.1 in
-          subst (λ (r : List ℕ). Takes (60 ∷ 33 ∷ r) x) (sym (starts_takes section_start cs t.0)) (section_takes (drop 7 cs) x t.1)
+      | inr w ↦ elim (chosen (starts section_start cs) (section_at (drop 7 cs)) (cond (starts doctype_start cs) (doctype_at (drop 7 cs)) no) (Some x) w.1) [
+        | inl v ↦ subst (λ (r : List ℕ). Takes (60 ∷ 33 ∷ r) x) (sym (starts_takes section_start cs v.0)) (section_takes (drop 7 cs) x v.1)
+        | inr v ↦
+            let t = taken (starts doctype_start cs) (doctype_at (drop 7 cs)) x v.1 in
+            subst (λ (r : List ℕ). Takes (60 ∷ 33 ∷ r) x) (sym (starts_takes doctype_start cs t.0)) (doctype_takes (drop 7 cs) x t.1)
+      ]
     ]
 
 markup_takes : (cs : List ℕ) (x : Token × List ℕ) → markup_at cs ≡ Some x → Takes (60 ∷ cs) x
@@ -117,3 +121,4 @@ token_again (Start e name ws gap) rest h =
     ∙ ap (λ (y : List ℕ). start_at y) (sym (append_assoc name (flat_map spelled_written ws ++ (gap ++ ending e)) rest))
     ∙ start_again e name ws gap rest h
 token_again (Close name gap) rest h = close_again name gap rest h
+token_again (Doctype gap name ext after) rest h = doctype_again gap name ext after rest h

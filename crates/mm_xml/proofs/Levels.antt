@@ -5,17 +5,15 @@ use Rattle.std.specs.List.{list_all}
 use Rattle.std.specs.Str.{bytes_eq, encode_utf8_all}
 use Rattle.mm_tree.specs.declared.Kind.{Kind}
 use Rattle.mm_tree.specs.declared.Kind.TheVariants.{Words}
-use Rattle.mm_tree.specs.declared.Plain.{Plain}
 use Rattle.mm_tree.specs.Characters.{is_space}
-use Rattle.mm_tree.specs.Trees.{none, Tree, siblings, one, levels, tree_of}
+use Rattle.mm_tree.specs.Trees.{none, Tree, siblings, one, levels}
 use Rattle.mm_xml.specs.declared.error.XmlError.{XmlError}
 use Rattle.mm_xml.specs.declared.error.XmlError.TheVariants as error
 use Rattle.mm_xml.specs.Grammar.{Begin, End, name_of}
 use Rattle.mm_xml.specs.Lexing.{◌>>=◌}
-use Rattle.mm_xml.specs.Telling.{Sign, Character, Named, Passage, Skipped, Opens, Closes, sign_at}
+use Rattle.mm_xml.specs.Telling.{Sign, Character, Named, Passage, Skipped, Opens, Closes, Doctyped, sign_at}
 use Rattle.mm_xml.specs.Machine.{State, Before, Inside, After, fresh, with_child, frame_tree, place, finished, cleared, leaf_at, text_step, open_step, sign_step, depth_of, deepest_of, Order, sign_may, sign_next, read_from}
-use Rattle.mm_xml.specs.Builds.{Steps, MovesTo, Places, PlaceFails, IsPlaced, Ends, Finishes, FinishFails}
-use Rattle.std.specs.Option.{ok_or}
+use Rattle.mm_xml.specs.Builds.{Steps, MovesTo, Places, PlaceFails, IsPlaced}
 use Rattle.mm_xml.proofs.Spans.{some_is, bind_some, taken}
 
 levels_more : (xs : List (Tree Kind)) (t : Tree Kind) → levels (siblings (xs ++ t ∷ [])) ≡ max (levels (siblings xs)) (1 + levels t.1)
@@ -110,15 +108,6 @@ whole_levels Before t e = absurd cc
 whole_levels (Inside f fs) t e = absurd cc
 whole_levels (After u) t e = ap (λ (x : Tree Kind). levels (one x)) (some_is u t e)
 
-pub finishes_stops : (e : XmlError) (moved : Option State) → PlaceFails e moved → FinishFails e (moved >>= finished)
-finishes_stops error.NotXml moved h = ap (λ o. o >>= finished) h
-finishes_stops error.TooDeep moved h = λ t e. let b = bind_some moved finished t e in omega (arith, h b.0 b.1, whole_levels b.0 t b.2)
-finishes_stops error.Memory moved h = tt
-
-pub finishes : (whole : Option Plain) (old mid : State) (moved : Option State) → IsPlaced old mid moved → Ends whole (finished mid) → Finishes (ok_or whole error.NotXml) old (moved >>= finished)
-finishes None old mid moved h k = ap (λ o. o >>= finished) h.0 ∙ k
-finishes (Some p) old mid moved h k = (ap (λ o. o >>= finished) h.0 ∙ k, λ few. omega (arith, h.1 few, whole_levels mid (tree_of p) k))
-
 -- ---- reading on
 
 cleared_is : (s : State) (y : State × List ℕ) → cleared s ≡ Some y → s ≡ y.0
@@ -129,6 +118,7 @@ sign_no_less s run (Character c) y e = subst (λ (x : State × List ℕ). deepes
 sign_no_less s run (Named cs) y e = subst (λ (x : State × List ℕ). deepest_of s ≤ deepest_of x.0) (some_is (s, run ++ cs) y e) (omega arith)
 sign_no_less s run (Passage cs) y e = subst (λ (x : State × List ℕ). deepest_of s ≤ deepest_of x.0) (some_is (s, run ++ cs) y e) (omega arith)
 sign_no_less s run Skipped y e = subst (λ (x : State × List ℕ). deepest_of s ≤ deepest_of x.0) (some_is (s, run) y e) (omega arith)
+sign_no_less s run Doctyped y e = subst (λ (x : State × List ℕ). deepest_of s ≤ deepest_of x.0) (some_is (s, run) y e) (omega arith)
 sign_no_less s run (Opens empty kind) y e =
     let c = bind_some (text_step s run >>= λ x. open_step x empty kind) cleared y e in
     let b = bind_some (text_step s run) (λ x. open_step x empty kind) c.0 c.1 in

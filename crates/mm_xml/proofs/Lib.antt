@@ -2,6 +2,7 @@ pub mod Spans
 pub mod Parts
 pub mod Attributes
 pub mod Tags
+pub mod DoctypeFacts
 pub mod Content
 pub mod Builds
 pub mod Turns

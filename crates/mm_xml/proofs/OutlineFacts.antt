@@ -10,7 +10,7 @@ use Rattle.mm_tree.specs.Characters.{is_space}
 use Rattle.mm_tree.specs.Trees.{Tree}
 use Rattle.mm_xml.specs.Grammar.{Begin, End, name_of}
 use Rattle.mm_xml.specs.Lexing.{◌>>=◌, Found, token_at}
-use Rattle.mm_xml.specs.Telling.{Sign, Character, Named, Passage, Skipped, Opens, Closes, sign_at}
+use Rattle.mm_xml.specs.Telling.{Sign, Character, Named, Passage, Skipped, Opens, Closes, Doctyped, sign_at}
 use Rattle.mm_xml.specs.Machine.{Frame, State, Before, Inside, After, with_child, frame_tree, place, finished, cleared, leaf_at, text_step, open_step, start_step, end_step, finish_step, sign_step, Order, sign_may, sign_next, read_from, read_as}
 use Rattle.mm_xml.specs.Outlines.{Outlined, outlined, is_over, outline_begin, outline_end, outline_leaf, outline_text, outline_open, outline_start, outline_finish, outline_cleared, outline_step, outline_ends, holds, outline_from, outline_as}
 use Rattle.std.specs.Borrow.{Bor}
@@ -90,6 +90,7 @@ step_seen s run (Character c) = ap (λ (b : Bool). some (seen s, b)) (alone (lis
 step_seen s run (Named cs) = ap (λ (b : Bool). some (seen s, b)) (sym (list_all-append is_space run cs))
 step_seen s run (Passage cs) = ap (λ (b : Bool). some (seen s, b)) (sym (list_all-append is_space run cs))
 step_seen s run Skipped = refl
+step_seen s run Doctyped = refl
 step_seen s run (Opens empty kind) = ap (λ o. o >>= outline_cleared) (start_seen s run empty kind) ∙ cleared_seen (start_step s run empty kind)
 step_seen s run (Closes name) = ap (λ o. o >>= outline_cleared) (finish_seen s run name) ∙ cleared_seen (end_step s run name)
 

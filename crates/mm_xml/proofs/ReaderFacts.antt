@@ -10,7 +10,7 @@ use Rattle.mm_tree.specs.Validity.{are_chars, is_valid_tree}
 use Rattle.mm_xml.specs.declared.error.XmlError.{XmlError}
 use Rattle.mm_xml.specs.declared.error.XmlError.TheVariants as error
 use Rattle.mm_xml.specs.Grammar.{Spells, characters}
-use Rattle.mm_xml.specs.Machine.{Order, document, text, read_as, or_else, read_all}
+use Rattle.mm_xml.specs.Machine.{Order, read_as, read_all}
 use Rattle.mm_xml.specs.Outlines.{outline_as}
 use Rattle.mm_xml.specs.Answers.{IsShallow, IsTooDeep, AnswersFor}
 use Rattle.mm_xml.specs.Builds.{FinishFails, Outlines, Reads, Decodes}
@@ -39,17 +39,6 @@ no_outline error.NotXml order cs h = nowhere (read_as order cs) (sym (outline_re
 no_outline error.TooDeep order cs h = absurd h
 no_outline error.Memory order cs h = tt
 
--- ---- the two forms
-
-pub document_read : (r : Result Plain XmlError) (cs : List ℕ) → (r ≡ Err error.NotXml → ⊥) → Reads r (read_as document cs) → Reads r (read_all cs)
-document_read (Ok p) cs other h = (ap (λ d. or_else d (read_as text cs)) h.0, h.1)
-document_read (Err error.NotXml) cs other h = absurd (other refl)
-document_read (Err error.TooDeep) cs other h = (h.0, ap (λ d. or_else d (read_as text cs)) h.1, h.2)
-document_read (Err error.Memory) cs other h = tt
-
-pub text_read : (r : Result Plain XmlError) (cs : List ℕ) → read_as document cs ≡ None → Reads r (read_as text cs) → Reads r (read_all cs)
-text_read r cs none h = subst (λ (o : Option (Tree Kind)). Reads r o) (ap (λ d. or_else d (read_as text cs)) (sym none)) h
-
 -- ---- the bytes
 
 -- the clauses of a reader
@@ -71,9 +60,6 @@ nothing_read bytes = record { found = tt; only = λ t s. tt; none = λ is. absur
 
 never : (bytes : List ℕ) → ((t : Tree Kind) → ¬ Spells bytes t) → Answers (Err error.NotXml) bytes
 never bytes h = record { found = tt; only = λ t s. h t s; none = λ is. h; deep = λ is. absurd cc; valid = λ short. tt }
-
-pub no_characters : (bytes : List ℕ) → are_chars bytes ≡ false → Answers (Err error.NotXml) bytes
-no_characters bytes h = never bytes (λ t s. let both_ways : true ≡ false = sym s.1.encoded ∙ h in cc)
 
 pub answers : (r : Result Plain XmlError) (bytes cs : List ℕ) → are_chars bytes ≡ true → cs ≡ characters bytes → Reads r (read_all cs) → Answers r bytes
 answers (Ok p) bytes cs utf8 same h =

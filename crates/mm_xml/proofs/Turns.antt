@@ -5,7 +5,7 @@ use Rattle.std.proofs.lemmas.Bool.{eqb-true}
 use Rattle.mm_tree.specs.declared.Kind.{Kind}
 use Rattle.mm_tree.specs.Trees.{Tree}
 use Rattle.mm_tree.specs.Characters.{is_space}
-use Rattle.mm_xml.specs.Syntax.{Literal, Reference, Token, Data, Section, Comment, Instruction, Start, Close}
+use Rattle.mm_xml.specs.Syntax.{Literal, Reference, Token, Data, Section, Comment, Instruction, Start, Close, Doctype}
 use Rattle.mm_xml.specs.Grammar.{Bracket, End, text_brackets, start_brackets, brackets, unbroken, outside, is_inside, is_textual}
 use Rattle.mm_xml.specs.Syntax.{meant}
 use Rattle.mm_xml.specs.Lexing.{◌>>=◌}
@@ -53,6 +53,7 @@ turns (Comment cs ∷ ts) n b d = turns ts 0 b d
 turns (Instruction name cs ∷ ts) n b d = turns ts 0 b d
 turns (Start empty name attributes gap ∷ ts) n b d = turns ts 0 false (cond empty d (d + 1))
 turns (Close name gap ∷ ts) n b d = turns ts 0 false (d - 1)
+turns (Doctype gap name ext after ∷ ts) n b d = right_side b _ _ _ (turns ts 0 false d)
 
 abbrev at_text : ℕ → Order
 at_text n = record { squares = n; before = false; depth = 1; textual = true }
@@ -91,6 +92,7 @@ text_turns (Comment cs ∷ ts) n = text_turns ts 0
 text_turns (Instruction name cs ∷ ts) n = text_turns ts 0
 text_turns (Start empty name attributes gap ∷ ts) n = never (unbroken 0 ts)
 text_turns (Close name gap ∷ ts) n = never (unbroken 0 ts)
+text_turns (Doctype gap name ext after ∷ ts) n = never (unbroken 0 ts)
 
 then_tests : (o : Option State) (t : Bool) (ps : List Bracket) (f : State → List ℕ → Option (Tree Kind)) → ((s : State) → f s [] ≡ cond t (build s ps) no)
     → ((o >>= cleared) >>= λ y. f y.0 y.1) ≡ cond t ((o >>= λ x. place_all x ps) >>= finished) no
@@ -117,3 +119,4 @@ accept_is (Close name gap ∷ ts) s run o = guarded (not o.textual) _ _ _ (
     then_tests (place_all s (text_brackets run ++ End (encode_utf8_all name) ∷ [])) (in_turn (next o (Close name gap)) ts) (brackets [] ts) (λ x r. accept x r (next o (Close name gap)) ts) (λ x. accept_is ts x [] (next o (Close name gap)))
     ∙ ap (λ q. cond (in_turn (next o (Close name gap)) ts) (q >>= finished) no) (sym (place_all_append s (text_brackets run ++ End (encode_utf8_all name) ∷ []) (brackets [] ts)))
     ∙ ap (λ ps. cond (in_turn (next o (Close name gap)) ts) (build s ps) no) (append_assoc (text_brackets run) (End (encode_utf8_all name) ∷ []) (brackets [] ts)))
+accept_is (Doctype gap name ext after ∷ ts) s run o = guarded o.before _ _ _ (accept_is ts s run (next o (Doctype gap name ext after)))

@@ -17,7 +17,7 @@ use Rattle.mm_tree.specs.Characters.{is_char, is_space, is_short_name, is_name}
 use Rattle.mm_tree.specs.Trees.{Trees, none, node, Tree, one, every, has_some}
 use Rattle.mm_tree.specs.Validity.{are_chars, is_node_name, is_valid_attribute, attribute_size, is_valid_kind, is_valid_node, is_valid_tree, is_element, piece_count, pieces}
 use Rattle.mm_xml.specs.Letters.{referred, by_number, by_name, numbered, is_digits, number, is_gap}
-use Rattle.mm_xml.specs.Syntax.{Part, Literal, Reference, is_part, is_literal, is_within, is_some, spelled_part, Written, is_written, spelled_written, named, meant, meant_in_value, attribute_of, differ, Token, Data, Section, Comment, Instruction, Start, Close, ending, is_token, spelled}
+use Rattle.mm_xml.specs.Syntax.{Part, Literal, Reference, is_part, is_literal, is_within, is_some, spelled_part, Written, is_written, spelled_written, named, meant, meant_in_value, attribute_of, differ, Token, Data, Section, Comment, Instruction, Start, Close, Doctype, ending, is_token, spelled}
 use Rattle.mm_xml.specs.Grammar.{Bracket, Begin, End, name_of, text_brackets, start_brackets, brackets, bracketing, outside, is_textual, Spells, normal, without_mark}
 use Rattle.mm_xml.proofs.Spans.{chosen, both, both_true}
 use Rattle.mm_xml.proofs.Attributes.{written_facts, attributes_len}
@@ -392,6 +392,11 @@ tokens_fit (Instruction name cs ∷ ts) run each all h short =
     let a = all_split (spelled (Instruction name cs)) (rest_of ts) all in
     let sizes = size_append (spelled (Instruction name cs)) (rest_of ts) in
     wider (brackets run ts) (size run + 1 + size (rest_of ts)) _ (omega (arith, sizes)) (tokens_fit ts run w.1 a.1 h (omega (arith, sizes, short)))
+tokens_fit (Doctype gap name ext after ∷ ts) run each all h short =
+    let w = both (is_token (Doctype gap name ext after)) (list_all is_token ts) each in
+    let a = all_split (spelled (Doctype gap name ext after)) (rest_of ts) all in
+    let sizes = size_append (spelled (Doctype gap name ext after)) (rest_of ts) in
+    wider (brackets run ts) (size run + 1 + size (rest_of ts)) _ (omega (arith, sizes)) (tokens_fit ts run w.1 a.1 h (omega (arith, sizes, short)))
 tokens_fit (Start e name ws gap ∷ ts) run each all h short =
     let w = both (is_token (Start e name ws gap)) (list_all is_token ts) each in
     let a = all_split (spelled (Start e name ws gap)) (rest_of ts) all in
@@ -435,6 +440,11 @@ prolog_few (Instruction name cs ∷ ts) run before each all h out short =
     let a = all_split (spelled (Instruction name cs)) (rest_of ts) all in
     let sizes = size_append (spelled (Instruction name cs)) (rest_of ts) in
     omega (arith, sizes, prolog_few ts run before w.1 a.1 h out (omega (arith, sizes, short)))
+prolog_few (Doctype gap name ext after ∷ ts) run before each all h out short =
+    let w = both (is_token (Doctype gap name ext after)) (list_all is_token ts) each in
+    let a = all_split (spelled (Doctype gap name ext after)) (rest_of ts) all in
+    let sizes = size_append (spelled (Doctype gap name ext after)) (rest_of ts) in
+    omega (arith, sizes, prolog_few ts run false w.1 a.1 h (both before (outside false 0 ts) out).1 (omega (arith, sizes, short)))
 prolog_few (Start e name ws gap ∷ ts) run before each all h out short =
     let w = both (is_token (Start e name ws gap)) (list_all is_token ts) each in
     let a = all_split (spelled (Start e name ws gap)) (rest_of ts) all in
@@ -465,6 +475,7 @@ textual_few (Comment cs ∷ ts) run each form = let w = both (is_token (Comment 
 textual_few (Instruction name cs ∷ ts) run each form = let w = both (is_token (Instruction name cs)) (list_all is_token ts) each in omega (arith, textual_few ts run w.1 form, size_append (spelled (Instruction name cs)) (rest_of ts))
 textual_few (Start e name ws gap ∷ ts) run each form = absurd cc
 textual_few (Close name gap ∷ ts) run each form = absurd cc
+textual_few (Doctype gap name ext after ∷ ts) run each form = absurd cc
 
 -- ---- the bytes
 

@@ -8,7 +8,7 @@ use Rattle.mm_tree.specs.declared.Kind.{Kind}
 use Rattle.mm_tree.specs.declared.Kind.TheVariants.{Element, Words}
 use Rattle.mm_tree.specs.Characters.{is_space}
 use Rattle.mm_tree.specs.Trees.{none, Tree, one}
-use Rattle.mm_xml.specs.Syntax.{Literal, Reference, attribute_of, Token, Data, Section, Comment, Instruction, Start, Close, is_token, spelled}
+use Rattle.mm_xml.specs.Syntax.{Literal, Reference, attribute_of, Token, Data, Section, Comment, Instruction, Start, Close, Doctype, is_token, spelled}
 use Rattle.mm_xml.specs.Grammar.{Bracket, Begin, End, name_of, text_brackets, start_brackets, brackets, unbroken, outside, is_textual, bracketing, has_form, SpelledBy, Spells, characters}
 use Rattle.mm_xml.specs.Lexing.{◌>>=◌, Found, token_at}
 use Rattle.mm_xml.specs.Telling.{Sign, told}
@@ -59,6 +59,7 @@ step_is s run (Instruction name cs) = refl
 step_is s run (Start empty name attributes gap) =
     ap (λ o. o >>= cleared) (placed s run (λ x. open_step x empty (Element (encode_utf8_all name) (map attribute_of attributes))) (start_brackets empty name attributes) (λ x. open_is x empty (Element (encode_utf8_all name) (map attribute_of attributes))))
 step_is s run (Close name gap) = ap (λ o. o >>= cleared) (placed s run (λ x. place x (End (encode_utf8_all name))) (End (encode_utf8_all name) ∷ []) (λ x. last_one (place x (End (encode_utf8_all name)))))
+step_is s run (Doctype gap name ext after) = refl
 
 told_bind : {B : Type 0} (o : Found Token) (f : Sign × List ℕ → Option B) → ((o >>= λ x. Some (told x.0, x.1)) >>= f) ≡ (o >>= λ y. f (told y.0, y.1))
 told_bind None f = refl
@@ -116,6 +117,7 @@ first (Comment cs) = (60, _, refl)
 first (Instruction name cs) = (60, _, refl)
 first (Start empty name attributes gap) = (60, _, refl)
 first (Close name gap) = (60, _, refl)
+first (Doctype gap name ext after) = (60, _, refl)
 
 then_read : (b : Bool) (q : Option (State × List ℕ)) (n : ℕ) (o : Order) (rest : List ℕ) (ts : List Token) → ((s : State) (run : List ℕ) → read_from n s run o rest ≡ accept s run o ts)
     → cond b (q >>= λ y. read_from n y.0 y.1 o rest) no ≡ cond b (q >>= λ y. accept y.0 y.1 o ts) no

@@ -7,7 +7,7 @@ use Rattle.mm_tree.specs.declared.Kind.TheVariants.{Element, Words}
 use Rattle.mm_tree.specs.Trees.{Trees, none, node, Tree, one}
 use Rattle.mm_tree.specs.Validity.{are_chars}
 use Rattle.mm_tree.specs.Characters.{is_space}
-use Rattle.mm_xml.specs.Syntax.{Literal, Reference, Written, meant, attribute_of, Token, Data, Section, Comment, Instruction, Start, Close, is_token, spelled}
+use Rattle.mm_xml.specs.Syntax.{Literal, Reference, Written, meant, attribute_of, Token, Data, Section, Comment, Instruction, Start, Close, Doctype, is_token, spelled}
 
 -- where a node begins and where it ends
 pub data Bracket : Type 0 where
@@ -33,8 +33,9 @@ brackets run (Comment cs ∷ ts) = brackets run ts
 brackets run (Instruction name cs ∷ ts) = brackets run ts
 brackets run (Start empty name attributes gap ∷ ts) = text_brackets run ++ (start_brackets empty name attributes ++ brackets [] ts)
 brackets run (Close name gap ∷ ts) = text_brackets run ++ (End (encode_utf8_all name) ∷ brackets [] ts)
+brackets run (Doctype gap name ext after ∷ ts) = brackets run ts
 
--- `]]>` stands in no unbroken run of character data; n brackets stand just before
+-- CharData (14): `]]>` stands in no unbroken run of character data; n brackets stand just before
 abbrev pub unbroken : ℕ → List Token → Bool
 unbroken n [] = true
 unbroken n (Data (Literal c) ∷ ts) = if c == 93 then unbroken (n + 1) ts else not ((c == 62) && nat_le 2 n) && unbroken 0 ts
@@ -44,12 +45,13 @@ unbroken n (Comment cs ∷ ts) = unbroken 0 ts
 unbroken n (Instruction name cs ∷ ts) = unbroken 0 ts
 unbroken n (Start empty name attributes gap ∷ ts) = unbroken 0 ts
 unbroken n (Close name gap ∷ ts) = unbroken 0 ts
+unbroken n (Doctype gap name ext after ∷ ts) = unbroken 0 ts
 
 abbrev pub is_inside : ℕ → Bool
 is_inside zero = false
 is_inside (suc depth) = true
 
--- what may stand outside the element, and where a document type may stand
+-- document (1), prolog (22), Misc (27): what may stand outside the element, and where a document type may stand
 abbrev pub outside : Bool → ℕ → List Token → Bool
 outside before depth [] = true
 outside before depth (Data (Literal c) ∷ ts) = (is_inside depth || is_space c) && outside before depth ts
@@ -59,6 +61,7 @@ outside before depth (Comment cs ∷ ts) = outside before depth ts
 outside before depth (Instruction name cs ∷ ts) = outside before depth ts
 outside before depth (Start empty name attributes gap ∷ ts) = outside false (if empty then depth else depth + 1) ts
 outside before depth (Close name gap ∷ ts) = outside false (depth - 1) ts
+outside before depth (Doctype gap name ext after ∷ ts) = before && outside false depth ts
 
 -- the tokens of the text form
 abbrev pub is_textual : Token → Bool

@@ -9,7 +9,7 @@ use Rattle.mm_xml.specs.declared.reference.Part.{Part}
 use Rattle.mm_xml.specs.declared.reference.Part.TheVariants as part
 use Rattle.mm_tree.specs.declared.Kind.TheVariants.{Element}
 use Rattle.mm_xml.specs.Lexing.{Found}
-use Rattle.mm_xml.specs.Telling.{Sign, Character, Named, Passage, Skipped, Opens, Closes}
+use Rattle.mm_xml.specs.Telling.{Sign, Character, Named, Passage, Skipped, Opens, Closes, Doctyped}
 
 abbrev pub sign_of : Lexeme → Sign
 sign_of (lexeme.Character c) = Character c
@@ -18,6 +18,7 @@ sign_of (lexeme.Section cs) = Passage cs.now
 sign_of lexeme.Skipped = Skipped
 sign_of (lexeme.Open empty name attributes) = Opens empty (Element name attributes)
 sign_of (lexeme.Close name) = Closes name
+sign_of lexeme.Doctype = Doctyped
 
 -- a lexeme and the characters after it, as the definition has them
 abbrev pub Finds : Option (Lexeme × Bor (List ℕ)) → Found Sign → Type 0

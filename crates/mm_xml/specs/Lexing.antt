@@ -3,7 +3,7 @@ use Rattle.std.specs.Prelude.{ℕ, zero, suc, List, [], ◌∷◌, length, take,
 use Rattle.std.specs.List.{list_all, prefix_len}
 use Rattle.mm_tree.specs.Characters.{is_char, is_space, is_name, is_short_name, is_name_char, is_name_start}
 use Rattle.mm_xml.specs.Letters.{is_gap, referred, starts}
-use Rattle.mm_xml.specs.Syntax.{Part, Literal, Reference, is_literal, not_semicolon, is_some, Written, is_quote, attribute_of, differ, Token, Data, Section, Comment, Instruction, Start, Close, is_rest, is_reserved}
+use Rattle.mm_xml.specs.Syntax.{Part, Literal, Reference, is_literal, not_semicolon, is_some, Written, is_quote, attribute_of, differ, Token, Data, Section, Comment, Instruction, Start, Close, Doctype, Quoted, External, Nowhere, System, Public, is_public, is_rest, is_reserved}
 
 infixl 10 ◌>>=◌
 abbrev pub ◌>>=◌ : {A B : Type 0} → Option A → (A → Option B) → Option B
@@ -106,15 +106,63 @@ instruction_at cs =
     (up_to (63 ∷ 62 ∷ []) (span is_name_char cs).1 >>= λ x. if is_rest x.0 then Some (Instruction (span is_name_char cs).0 x.0, x.1) else None)
     else None
 
+-- ---- the document type declaration
+
+abbrev pub quoted_char : (ℕ → Bool) → ℕ → ℕ → Bool
+quoted_char p q c = p c && not (c == q)
+
+-- quoted text, of characters that pass
+abbrev pub quoted_at : (ℕ → Bool) → List ℕ → Found Quoted
+quoted_at p [] = None
+quoted_at p (q ∷ cs) = if is_quote q then (after q (span (quoted_char p q) cs).1 >>= λ r. Some (record { quote = q; text = (span (quoted_char p q) cs).0 }, r)) else None
+
+-- white space, which is more than none, and quoted text
+abbrev pub spaced_quoted_at : (ℕ → Bool) → List ℕ → Found (List ℕ × Quoted)
+spaced_quoted_at p cs = if is_gap (span is_space cs).0 then (quoted_at p (span is_space cs).1 >>= λ q. Some (((span is_space cs).0, q.0), q.1)) else None
+
+abbrev pub system_word : List ℕ
+system_word = 83 ∷ 89 ∷ 83 ∷ 84 ∷ 69 ∷ 77 ∷ []
+
+abbrev pub public_word : List ℕ
+public_word = 80 ∷ 85 ∷ 66 ∷ 76 ∷ 73 ∷ 67 ∷ []
+
+-- what comes after `SYSTEM`, and after `PUBLIC`, which stand behind this white space
+abbrev pub system_at : List ℕ → List ℕ → Found External
+system_at gap cs = spaced_quoted_at is_char cs >>= λ x. Some (System gap x.0.0 x.0.1, x.1)
+
+abbrev pub public_at : List ℕ → List ℕ → Found External
+public_at gap cs = spaced_quoted_at is_public cs >>= λ x. spaced_quoted_at is_char x.1 >>= λ y. Some (Public gap x.0.0 x.0.1 y.0.0 y.0.1, y.1)
+
+-- an external identifier, where one stands behind white space
+unfoldable pub external_at : List ℕ → Found External
+external_at cs =
+    if starts system_word (span is_space cs).1 then (if is_gap (span is_space cs).0 then system_at (span is_space cs).0 (drop 6 (span is_space cs).1) else None)
+    else (if starts public_word (span is_space cs).1 then (if is_gap (span is_space cs).0 then public_at (span is_space cs).0 (drop 6 (span is_space cs).1) else None)
+    else Some (Nowhere, cs))
+
+-- what comes after the name of the document type
+abbrev pub doctype_end_at : List ℕ → List ℕ → List ℕ → Found Token
+doctype_end_at gap name cs = external_at cs >>= λ e. after 62 (span is_space e.1).1 >>= λ r. Some (Doctype gap name e.0 (span is_space e.1).0, r)
+
+-- what comes after `<!DOCTYPE`
+unfoldable pub doctype_at : List ℕ → Found Token
+doctype_at cs =
+    if is_gap (span is_space cs).0 then
+    (if is_name (span is_name_char (span is_space cs).1).0 then doctype_end_at (span is_space cs).0 (span is_name_char (span is_space cs).1).0 (span is_name_char (span is_space cs).1).1 else None)
+    else None
+
 abbrev pub two_dashes : List ℕ
 two_dashes = 45 ∷ 45 ∷ []
 
 abbrev pub section_start : List ℕ
 section_start = 91 ∷ 67 ∷ 68 ∷ 65 ∷ 84 ∷ 65 ∷ 91 ∷ []
 
+abbrev pub doctype_start : List ℕ
+doctype_start = 68 ∷ 79 ∷ 67 ∷ 84 ∷ 89 ∷ 80 ∷ 69 ∷ []
+
 -- what comes after `<!`
 unfoldable pub marked_at : List ℕ → Found Token
-marked_at cs = if starts two_dashes cs then comment_at (drop 2 cs) else (if starts section_start cs then section_at (drop 7 cs) else None)
+marked_at cs = if starts two_dashes cs then comment_at (drop 2 cs) else (if starts section_start cs then section_at (drop 7 cs) else (if starts doctype_start cs then doctype_at (drop 7 cs) else None))
 
 -- what comes after `<`
 unfoldable pub markup_at : List ℕ → Found Token

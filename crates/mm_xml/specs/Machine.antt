@@ -6,10 +6,10 @@ use Rattle.mm_tree.specs.declared.Kind.{Kind}
 use Rattle.mm_tree.specs.declared.Kind.TheVariants.{Words}
 use Rattle.mm_tree.specs.Trees.{none, Tree, siblings, one, levels}
 use Rattle.mm_tree.specs.Characters.{is_space}
-use Rattle.mm_xml.specs.Syntax.{meant, Token, Data, Section, Comment, Instruction, Start, Close}
+use Rattle.mm_xml.specs.Syntax.{meant, Token, Data, Section, Comment, Instruction, Start, Close, Doctype}
 use Rattle.mm_xml.specs.Grammar.{Bracket, Begin, End, name_of, text_brackets, start_brackets, is_inside}
 use Rattle.mm_xml.specs.Lexing.{◌>>=◌}
-use Rattle.mm_xml.specs.Telling.{Sign, Character, Named, Passage, Skipped, Opens, Closes, told, sign_at}
+use Rattle.mm_xml.specs.Telling.{Sign, Character, Named, Passage, Skipped, Opens, Closes, Doctyped, told, sign_at}
 
 -- an element that is open: its kind, and its children so far
 pub record Frame : Type 0 where
@@ -67,6 +67,7 @@ step s run (Comment cs) = Some (s, run)
 step s run (Instruction name cs) = Some (s, run)
 step s run (Start empty name attributes gap) = place_all s (text_brackets run ++ start_brackets empty name attributes) >>= cleared
 step s run (Close name gap) = place_all s (text_brackets run ++ End (encode_utf8_all name) ∷ []) >>= cleared
+step s run (Doctype gap name ext after) = Some (s, run)
 
 -- ---- the same from what tokens tell
 
@@ -100,6 +101,7 @@ sign_step s run (Passage cs) = Some (s, run ++ cs)
 sign_step s run Skipped = Some (s, run)
 sign_step s run (Opens empty kind) = start_step s run empty kind >>= cleared
 sign_step s run (Closes name) = end_step s run name >>= cleared
+sign_step s run Doctyped = Some (s, run)
 
 -- how many elements are open
 abbrev pub depth_of : State → ℕ
@@ -136,6 +138,7 @@ sign_may o (Passage cs) = is_inside o.depth
 sign_may o Skipped = true
 sign_may o (Opens empty kind) = not o.textual
 sign_may o (Closes name) = not o.textual
+sign_may o Doctyped = o.before
 
 abbrev pub may : Order → Token → Bool
 may o t = sign_may o (told t)
@@ -150,6 +153,7 @@ sign_next o (Passage cs) = cut o
 sign_next o Skipped = cut o
 sign_next o (Opens empty kind) = record { squares = 0; before = false; depth = if empty then o.depth else o.depth + 1; textual = o.textual }
 sign_next o (Closes name) = record { squares = 0; before = false; depth = o.depth - 1; textual = o.textual }
+sign_next o Doctyped = record { squares = 0; before = false; depth = o.depth; textual = o.textual }
 
 abbrev pub next : Order → Token → Order
 next o t = sign_next o (told t)

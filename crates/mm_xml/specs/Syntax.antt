@@ -4,7 +4,7 @@ use Rattle.std.specs.List.{flat_map, list_all}
 use Rattle.std.specs.Str.{bytes_eq, encode_utf8_all}
 use Rattle.mm_tree.specs.declared.Attribute.{Attribute}
 use Rattle.mm_tree.specs.Validity.{are_distinct}
-use Rattle.mm_tree.specs.Characters.{is_char, is_space, is_name, is_short_name}
+use Rattle.mm_tree.specs.Characters.{between, is_char, is_space, is_name, is_short_name}
 use Rattle.mm_xml.specs.Letters.{is_gap, referred, is_free, lower}
 
 -- a character of a text or of a value: itself, or by a reference
@@ -15,7 +15,7 @@ pub data Part : Type 0 where
 abbrev pub not_semicolon : ℕ → Bool
 not_semicolon c = not (c == 59)
 
--- neither `<` nor `&`
+-- a character of CharData (14) or of AttValue (10): neither `<` nor `&`
 abbrev pub is_literal : ℕ → Bool
 is_literal c = is_char c && not (c == 60) && not (c == 38)
 
@@ -31,7 +31,7 @@ abbrev pub spelled_part : Part → List ℕ
 spelled_part (Literal c) = c ∷ []
 spelled_part (Reference body) = 38 ∷ body ++ 59 ∷ []
 
--- an attribute as it is written
+-- Attribute (41) as it is written, behind its white space
 pub record Written : Type 0 where
   pub gap : List ℕ
   pub name : List ℕ
@@ -75,6 +75,39 @@ attribute_of a = record { name = encode_utf8_all a.name; value = encode_utf8_all
 abbrev pub differ : List Attribute → Bool
 differ attributes = are_distinct (map (λ a. a.name) attributes)
 
+-- quoted text
+pub record Quoted : Type 0 where
+  pub quote : ℕ
+  pub text : List ℕ
+
+abbrev pub spelled_quoted : Quoted → List ℕ
+spelled_quoted q = q.quote ∷ (q.text ++ q.quote ∷ [])
+
+abbrev pub is_quoted : (ℕ → Bool) → Quoted → Bool
+is_quoted p q = is_quote q.quote && list_all (λ c. p c && not (c == q.quote)) q.text
+
+abbrev pub is_public : ℕ → Bool
+is_public c = (c == 32) || (c == 13) || (c == 10) || between 97 122 c || between 65 90 c || between 39 59 c || (c == 33) || (c == 61) || (c == 63) || (c == 64) || (c == 35) || (c == 36) || (c == 95) || (c == 37)
+
+-- ExternalID (75), behind its white space
+pub data External : Type 0 where
+  Nowhere : External
+  System : List ℕ → List ℕ → Quoted → External
+  Public : List ℕ → List ℕ → Quoted → List ℕ → Quoted → External
+
+abbrev pub spelled_external : External → List ℕ
+spelled_external Nowhere = []
+spelled_external (System s t q) = s ++ (83 ∷ 89 ∷ 83 ∷ 84 ∷ 69 ∷ 77 ∷ (t ++ spelled_quoted q))
+spelled_external (Public s t q u r) = s ++ (80 ∷ 85 ∷ 66 ∷ 76 ∷ 73 ∷ 67 ∷ (t ++ (spelled_quoted q ++ (u ++ spelled_quoted r))))
+
+abbrev pub is_external : External → Bool
+is_external Nowhere = true
+is_external (System s t q) = is_gap s && (is_gap t && is_quoted is_char q)
+is_external (Public s t q u r) = is_gap s && (is_gap t && (is_quoted is_public q && (is_gap u && is_quoted is_char r)))
+
+-- Data is one character of CharData (14) or one Reference (67), Section CDSect (18), Comment Comment (15), Instruction PI (16),
+-- Start STag (40) or, where it is empty, EmptyElemTag (44), Close ETag (42), Doctype doctypedecl (28) without an internal subset.
+-- A list holds what a production leaves open: white space, names, quotes, texts.
 pub data Token : Type 0 where
   Data : Part → Token
   Section : List ℕ → Token
@@ -82,6 +115,7 @@ pub data Token : Type 0 where
   Instruction : List ℕ → List ℕ → Token
   Start : Bool → List ℕ → List Written → List ℕ → Token
   Close : List ℕ → List ℕ → Token
+  Doctype : List ℕ → List ℕ → External → List ℕ → Token
 
 -- this letter, in either case
 abbrev pub letter_is : ℕ → ℕ → Bool
@@ -103,6 +137,7 @@ is_token (Comment cs) = list_all is_char cs && is_free (45 ∷ 45 ∷ []) cs
 is_token (Instruction name cs) = is_name name && (not (is_reserved name) && (is_rest cs && is_free (63 ∷ 62 ∷ []) cs))
 is_token (Start empty name attributes gap) = is_short_name name && (list_all is_written attributes && (differ (map attribute_of attributes) && list_all is_space gap))
 is_token (Close name gap) = is_short_name name && list_all is_space gap
+is_token (Doctype gap name ext after) = is_gap gap && (is_name name && (is_external ext && list_all is_space after))
 
 abbrev pub ending : Bool → List ℕ
 ending empty = if empty then 47 ∷ 62 ∷ [] else 62 ∷ []
@@ -114,3 +149,4 @@ spelled (Comment cs) = 60 ∷ 33 ∷ 45 ∷ 45 ∷ (cs ++ 45 ∷ 45 ∷ 62 ∷ [
 spelled (Instruction name cs) = 60 ∷ 63 ∷ (name ++ (cs ++ 63 ∷ 62 ∷ []))
 spelled (Start empty name attributes gap) = 60 ∷ (name ++ (flat_map spelled_written attributes ++ (gap ++ ending empty)))
 spelled (Close name gap) = 60 ∷ 47 ∷ (name ++ (gap ++ 62 ∷ []))
+spelled (Doctype gap name ext after) = 60 ∷ 33 ∷ 68 ∷ 79 ∷ 67 ∷ 84 ∷ 89 ∷ 80 ∷ 69 ∷ (gap ++ (name ++ (spelled_external ext ++ (after ++ 62 ∷ []))))

@@ -1,14 +1,14 @@
 -- What a token tells, without how it is written.
-use Rattle.std.specs.Prelude.{ℕ, List, [], ◌∷◌, ◌++◌, Bool, Some, None, if◌then◌else◌, map}
+use Rattle.std.specs.Prelude.{ℕ, List, [], ◌∷◌, ◌++◌, Bool, Option, Some, None, if◌then◌else◌, map}
 use Rattle.std.specs.Str.{encode_utf8_all}
 use Rattle.mm_tree.specs.declared.Kind.{Kind}
 use Rattle.mm_tree.specs.declared.Kind.TheVariants.{Element}
 use Rattle.mm_tree.specs.declared.Attribute.{Attribute}
 use Rattle.mm_xml.specs.Letters.{referred}
-use Rattle.mm_xml.specs.Syntax.{Part, Literal, Reference, named, meant_in_value, Written, attribute_of, Token, Data, Section, Comment, Instruction, Start, Close}
+use Rattle.mm_xml.specs.Syntax.{Part, Literal, Reference, named, meant_in_value, Written, attribute_of, is_public, Token, Data, Section, Comment, Instruction, Start, Close, Doctype}
 use Rattle.mm_xml.specs.Grammar.{Bracket, Begin, End, name_of}
-use Rattle.mm_xml.specs.Lexing.{◌>>=◌, Found, span, equals_at, value_at, token_at}
-use Rattle.mm_tree.specs.Characters.{is_name_char, is_short_name}
+use Rattle.mm_xml.specs.Lexing.{◌>>=◌, Found, span, equals_at, value_at, spaced_quoted_at, token_at}
+use Rattle.mm_tree.specs.Characters.{is_char, is_name_char, is_short_name}
 use Rattle.std.specs.List.{flat_map}
 
 pub data Sign : Type 0 where
@@ -18,8 +18,9 @@ pub data Sign : Type 0 where
   Skipped : Sign
   Opens : Bool → Kind → Sign
   Closes : List ℕ → Sign
+  Doctyped : Sign
 
--- a character of its own; what a reference names; the characters of a section; what is read over; the tags
+-- a character of its own; what a reference names; the characters of a section; what is read over; the tags; the document type
 abbrev pub told : Token → Sign
 told (Data (Literal c)) = Character c
 told (Data (Reference body)) = Named (named (referred body))
@@ -28,6 +29,7 @@ told (Comment cs) = Skipped
 told (Instruction name cs) = Skipped
 told (Start empty name attributes gap) = Opens empty (Element (encode_utf8_all name) (map attribute_of attributes))
 told (Close name gap) = Closes (encode_utf8_all name)
+told (Doctype gap name ext after) = Doctyped
 
 abbrev pub opens : Bool → Kind → List Bracket
 opens empty kind = Begin kind ∷ (if empty then End (name_of kind) ∷ [] else [])
@@ -63,3 +65,11 @@ tell_part found = found >>= λ x. Some (told (Data x.0), x.1)
 
 abbrev pub tell_character : Found Part → Found (List ℕ)
 tell_character found = found >>= λ x. Some (meant_in_value x.0, x.1)
+
+-- what comes after what was found
+abbrev pub rest_of : {A : Type 0} → Found A → Option (List ℕ)
+rest_of found = found >>= λ x. Some x.1
+
+-- what comes after a public and a system identifier
+abbrev pub both_rest : List ℕ → Option (List ℕ)
+both_rest cs = rest_of (spaced_quoted_at is_public cs) >>= λ r. rest_of (spaced_quoted_at is_char r)

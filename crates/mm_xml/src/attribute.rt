@@ -126,7 +126,7 @@ fn value_of(alloc: Global, cs: &[char]) -> Result<Option<(Text, &[char])>, Alloc
     }
 }
 
-fn is_quote(c: char) -> bool
+pub fn is_quote(c: char) -> bool
     ensures { result ≡ quote_is c }
 {
     c == '"' || c == '\''

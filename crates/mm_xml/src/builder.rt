@@ -37,6 +37,7 @@ impl Builder {
             Lexeme::Named(c) => self.run.push(c)?,
             Lexeme::Section(cs) => self.run.extend_from_slice(cs)?,
             Lexeme::Skipped => {}
+            Lexeme::Doctype => {}
             Lexeme::Open(empty, name, attributes) => {
                 let kind = Kind::Element { name, attributes };
                 self.stack.start(alloc, self.run.as_slice(), empty, kind)?;

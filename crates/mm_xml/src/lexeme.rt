@@ -6,6 +6,7 @@ ghost use Rattle.mm_xml.specs.Telling.{tell, sign_at};
 ghost use Rattle.mm_xml.specs.Lexemes.{Finds, Gets, Skips};
 
 use crate::attribute::{are_distinct, attributes_of, is_name, is_short_name, text_of};
+use crate::doctype::after_doctype;
 use crate::letters::{after, are_chars, is_space, name_span, space_span, strip, up_to};
 use crate::reference::{Part, part_of};
 use mm_tree::{Attributes, Text};
@@ -13,7 +14,8 @@ use std::alloc::{AllocError, Global};
 
 /// What stands at the front of the rest: a character of character data, itself or by a reference; the
 /// characters of a section; a comment or an instruction, which are read over; the tag before an element,
-/// or of an empty one; the tag behind an element.
+/// or of an empty one; the tag behind an element; a document type
+/// declaration.
 #[derive(Drop)]
 pub enum Lexeme<'a> {
     Character(char),
@@ -22,6 +24,7 @@ pub enum Lexeme<'a> {
     Skipped,
     Open(bool, Text, Attributes),
     Close(Text),
+    Doctype,
 }
 
 /// Where a start tag ends: whether its element is empty, and what comes after it.
@@ -154,8 +157,12 @@ fn marked_of(cs: &[char]) -> Option<(Lexeme<'_>, &[char])>
             None => None,
         };
     }
-    match strip(cs, ['[', 'C', 'D', 'A', 'T', 'A', '['].as_slice()) {
-        Some(rest) => section_of(rest),
+    if let Some(rest) = strip(cs, ['[', 'C', 'D', 'A', 'T', 'A', '['].as_slice()) {
+        return section_of(rest);
+    }
+    let rest = strip(cs, ['D', 'O', 'C', 'T', 'Y', 'P', 'E'].as_slice())?;
+    match after_doctype(rest) {
+        Some(rest) => Some((Lexeme::Doctype, rest)),
         None => None,
     }
 }

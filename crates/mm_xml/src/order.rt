@@ -55,6 +55,7 @@ impl Order {
             }
             Lexeme::Named(_) | Lexeme::Section(_) => self.depth > 0,
             Lexeme::Skipped => true,
+            Lexeme::Doctype => self.before,
             Lexeme::Open(_, _, _) | Lexeme::Close(_) => !self.textual,
         }
     }
@@ -80,6 +81,9 @@ impl Order {
                 if !*empty {
                     self.depth += 1;
                 }
+            }
+            Lexeme::Doctype => {
+                self.before = false;
             }
             Lexeme::Close(_) => {
                 self.before = false;

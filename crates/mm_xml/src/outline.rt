@@ -99,7 +99,7 @@ impl Outline {
             Lexeme::Character(c) => Ok(blank && is_space(c)),
             Lexeme::Named(c) => Ok(blank && is_space(c)),
             Lexeme::Section(cs) => Ok(blank && is_blank(cs)),
-            Lexeme::Skipped => Ok(blank),
+            Lexeme::Skipped | Lexeme::Doctype => Ok(blank),
             Lexeme::Open(empty, name, _) => {
                 self.start(blank, empty, name)?;
                 Ok(true)

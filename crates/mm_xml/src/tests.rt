@@ -171,6 +171,38 @@ fn refuses_other_content(rt: HostRuntime) {
 }
 
 #[test]
+fn takes_document_types(rt: HostRuntime) {
+    for text in [
+        "<!DOCTYPE a><a/>",
+        "<!DOCTYPE\n_b SYSTEM 'b.dtd' ><a/>",
+        "<!-- --><!DOCTYPE a PUBLIC \"-//W3C//DTD a'\" \"<>\"><?p?><a/>",
+        " <!DOCTYPE SYSTEM><a/>",
+    ] {
+        assert_eq!(rt; outcome(rt.alloc(), text), Answer::Tree, "at {text}");
+    }
+}
+
+#[test]
+fn refuses_document_types(rt: HostRuntime) {
+    for text in [
+        "<!DOCTYPE><a/>",
+        "<!DOCTYPEa><a/>",
+        "<!doctype a><a/>",
+        "<!DOCTYPE a []><a/>",
+        "<!DOCTYPE a SYSTEM b><a/>",
+        "<!DOCTYPE a SYSTEM'b'><a/>",
+        "<!DOCTYPE a PUBLIC 'b'><a/>",
+        "<!DOCTYPE a PUBLIC '{' 'b'><a/>",
+        "<!DOCTYPE a><!DOCTYPE a><a/>",
+        "<a/><!DOCTYPE a>",
+        "<a><!DOCTYPE a></a>",
+        "<!DOCTYPE a>b",
+    ] {
+        assert_eq!(rt; outcome(rt.alloc(), text), Answer::NotXml, "at {text}");
+    }
+}
+
+#[test]
 fn refuses_bytes_that_are_no_text(rt: HostRuntime) {
     for bytes in [b"<a>\xff</a>".as_slice(), b"\xc3", b"\xed\xa0\x80"] {
         let answer = read(rt.alloc(), bytes);
