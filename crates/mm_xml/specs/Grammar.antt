@@ -35,7 +35,7 @@ brackets run (Start empty name attributes gap ∷ ts) = text_brackets run ++ (st
 brackets run (Close name gap ∷ ts) = text_brackets run ++ (End (encode_utf8_all name) ∷ brackets [] ts)
 brackets run (Doctype gap name ext after ∷ ts) = brackets run ts
 
--- `]]>` stands in no unbroken run of character data; n brackets stand just before
+-- CharData (14): `]]>` stands in no unbroken run of character data; n brackets stand just before
 abbrev pub unbroken : ℕ → List Token → Bool
 unbroken n [] = true
 unbroken n (Data (Literal c) ∷ ts) = if c == 93 then unbroken (n + 1) ts else not ((c == 62) && nat_le 2 n) && unbroken 0 ts
@@ -51,7 +51,7 @@ abbrev pub is_inside : ℕ → Bool
 is_inside zero = false
 is_inside (suc depth) = true
 
--- what may stand outside the element, and where a document type may stand
+-- document (1), prolog (22), Misc (27): what may stand outside the element, and where a document type may stand
 abbrev pub outside : Bool → ℕ → List Token → Bool
 outside before depth [] = true
 outside before depth (Data (Literal c) ∷ ts) = (is_inside depth || is_space c) && outside before depth ts

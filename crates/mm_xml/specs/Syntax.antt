@@ -15,7 +15,7 @@ pub data Part : Type 0 where
 abbrev pub not_semicolon : ℕ → Bool
 not_semicolon c = not (c == 59)
 
--- neither `<` nor `&`
+-- a character of CharData (14) or of AttValue (10): neither `<` nor `&`
 abbrev pub is_literal : ℕ → Bool
 is_literal c = is_char c && not (c == 60) && not (c == 38)
 
@@ -31,7 +31,7 @@ abbrev pub spelled_part : Part → List ℕ
 spelled_part (Literal c) = c ∷ []
 spelled_part (Reference body) = 38 ∷ body ++ 59 ∷ []
 
--- an attribute as it is written
+-- Attribute (41) as it is written, behind its white space
 pub record Written : Type 0 where
   pub gap : List ℕ
   pub name : List ℕ
@@ -89,7 +89,7 @@ is_quoted p q = is_quote q.quote && list_all (λ c. p c && not (c == q.quote)) q
 abbrev pub is_public : ℕ → Bool
 is_public c = (c == 32) || (c == 13) || (c == 10) || between 97 122 c || between 65 90 c || between 39 59 c || (c == 33) || (c == 61) || (c == 63) || (c == 64) || (c == 35) || (c == 36) || (c == 95) || (c == 37)
 
--- where a document type's text would be found
+-- ExternalID (75), behind its white space
 pub data External : Type 0 where
   Nowhere : External
   System : List ℕ → List ℕ → Quoted → External
@@ -105,6 +105,9 @@ is_external Nowhere = true
 is_external (System s t q) = is_gap s && (is_gap t && is_quoted is_char q)
 is_external (Public s t q u r) = is_gap s && (is_gap t && (is_quoted is_public q && (is_gap u && is_quoted is_char r)))
 
+-- Data is one character of CharData (14) or one Reference (67), Section CDSect (18), Comment Comment (15), Instruction PI (16),
+-- Start STag (40) or, where it is empty, EmptyElemTag (44), Close ETag (42), Doctype doctypedecl (28) without an internal subset.
+-- A list holds what a production leaves open: white space, names, quotes, texts.
 pub data Token : Type 0 where
   Data : Part → Token
   Section : List ℕ → Token

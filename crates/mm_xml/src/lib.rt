@@ -1,4 +1,6 @@
-//! Reads and writes XML, after the productions of XML 1.0, fifth edition.
+//! Reads and writes XML, after the productions of XML 1.0, fifth edition. A document type declaration has
+//! no internal subset, the only references are those of the five names and by number, and an XML
+//! declaration isn't read.
 #![tactic(auto)]
 
 mod attribute;
