@@ -8,7 +8,7 @@ use Rattle.mm_label.specs.Label.{whole}
 use Rattle.mm_tree.specs.Trees.{Trees, none, node}
 use Rattle.mm_lists.specs.Fronts.{Word}
 use Rattle.mm_tree.specs.Search.{Worded, has, holds, is_full, list_of, lists_of}
-use Rattle.mm_lists.proofs.Formed.{IsChild, RootsAfter, WellFormed}
+use Rattle.mm_lists.specs.Formed.{IsChild, RootsAfter, WellFormed}
 use Rattle.mm_lists.proofs.FrontLaws.{front_refl, front_trans, front_antisym, fronts_of_one, apart_below}
 
 -- ---- tests

@@ -3,7 +3,6 @@ pub mod Ties
 pub mod Nearest
 pub mod Unique
 pub mod Candidates
-pub mod Formed
 pub mod Segments
 pub mod Below
 pub mod Listed

@@ -6,7 +6,7 @@ use Rattle.mm_label.specs.Label.{whole}
 use Rattle.mm_tree.specs.Trees.{Trees, none, node}
 use Rattle.mm_lists.specs.Fronts.{Word}
 use Rattle.mm_tree.specs.Search.{Worded, has, list_of, lists_of}
-use Rattle.mm_lists.proofs.Formed.{WellFormed}
+use Rattle.mm_lists.specs.Formed.{WellFormed}
 use Rattle.mm_lists.proofs.FrontLaws.{front_refl, front_le, below_apart}
 use Rattle.mm_lists.proofs.Below.{NodeOf, node_below, node_after, within_joined}
 
@@ -24,7 +24,7 @@ listed_node w m (node e inner rest) h = elim (within_joined m (cond (has e w) (e
   ]
 ]
 
-node_whole : (y m : Label) (forest : Trees Worded) → WellFormed y forest → NodeOf m forest → whole m ≡ m
+pub node_whole : (y m : Label) (forest : Trees Worded) → WellFormed y forest → NodeOf m forest → whole m ≡ m
 node_whole y m none g n = absurd n
 node_whole y m (node e inner rest) g n = elim n [
   | inl h ↦ subst (λ (x : Label). whole x ≡ x) (sym h) g.0.is_whole

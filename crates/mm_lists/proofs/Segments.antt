@@ -14,7 +14,7 @@ use Rattle.mm_tree.specs.Numbering.{Labelled}
 use Rattle.mm_tree.specs.Forests.{segment_below, rises, is_child_label, are_labelled, is_well_formed}
 use Rattle.mm_tree.specs.Search.{worded}
 use Rattle.mm_lists.specs.Fronts.{Label, Front, Le, Lt, Apart}
-use Rattle.mm_lists.proofs.Formed.{IsChild, RootsAfter, WellFormed}
+use Rattle.mm_lists.specs.Formed.{IsChild, RootsAfter, WellFormed}
 use Rattle.mm_lists.proofs.FrontLaws.{kept, le_trans, le_antisym, front_refl, front_le}
 use Rattle.mm_lists.proofs.Ties.{before_lt}
 
@@ -86,7 +86,7 @@ joined_one (c ∷ y) s (e ∷ z) g w f =
     let k = kept e (whole z) z w in
     elim (joined_one y s z g k.0 f.1) [ inl h ↦ inl (f.0, h) | inr h ↦ let p = f.0 in inr cc ]
 
-child_is : (y s : Label) → is_segment s ≡ true → IsChild y (y ++ s)
+pub child_is : (y s : Label) → is_segment s ≡ true → IsChild y (y ++ s)
 child_is y s g = record {
   below = joined_front y s;
   is_whole = joined_whole y s g;

@@ -5,7 +5,7 @@ use Rattle.mm_lists.specs.Fronts.{Label, Within, Meets, Full, Deepest}
 use Rattle.mm_tree.specs.Trees.{Trees}
 use Rattle.mm_lists.specs.Fronts.{Word}
 use Rattle.mm_tree.specs.Search.{Worded, list_of, lists_of, slca}
-use Rattle.mm_lists.proofs.Formed.{WellFormed}
+use Rattle.mm_lists.specs.Formed.{WellFormed}
 use Rattle.mm_slca.specs.Bound.{least, cost_of}
 use Rattle.mm_lists.specs.Shortest.{IsShortest}
 use Rattle.mm_lists.proofs.Unique.{one_list}

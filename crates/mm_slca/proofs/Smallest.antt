@@ -5,7 +5,7 @@ use Rattle.mm_label.specs.Label.{whole}
 use Rattle.mm_tree.specs.Trees.{Trees, none, node}
 use Rattle.mm_lists.specs.Fronts.{Word}
 use Rattle.mm_tree.specs.Search.{Worded, is_full, some_full, slca, lists_of}
-use Rattle.mm_lists.proofs.Formed.{WellFormed}
+use Rattle.mm_lists.specs.Formed.{WellFormed}
 use Rattle.mm_lists.proofs.FrontLaws.{front_refl, front_trans, below_apart}
 use Rattle.mm_lists.proofs.Candidates.{meets_above}
 use Rattle.mm_lists.proofs.Below.{or_cases, or_false, front_cases, NodeOf, node_below, node_after, AllBelow, AllOne, full_of, of_full, all_one, all_after, all_inner, meets_left, meets_right, within_joined, rising_joined, full_lists, lists_full}

@@ -5,6 +5,7 @@ pub mod NumberForm
 pub mod LoadFacts
 pub mod OrderLaws
 pub mod WayLaws
+pub mod HalvingLaws
 pub mod PlaceFacts
 pub mod GapFacts
 pub mod FormLaws
@@ -18,3 +19,7 @@ pub mod TestFacts
 pub mod FlagFacts
 pub mod SearchFacts
 pub mod SmallestLaws
+pub mod OwnerFacts
+pub mod OwnerLaws
+pub mod FragmentLaws
+pub mod FragmentFacts

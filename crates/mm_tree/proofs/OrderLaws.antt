@@ -95,7 +95,7 @@ all_from : {X : Type 0} (P : X → Type 0) (xs : List X) → Each P xs → All P
 all_from P [] a = All-nil P
 all_from P (x ∷ xs) a = All-cons P x xs a.0 (all_from P xs a.1)
 
-labels_node : (e : Labelled) (inner rest : Trees Labelled) → labels (node e inner rest) ≡ e.label ∷ labels inner ++ labels rest
+pub labels_node : (e : Labelled) (inner rest : Trees Labelled) → labels (node e inner rest) ≡ e.label ∷ labels inner ++ labels rest
 labels_node e inner rest = ap (λ (z : List (List ℤ)). e.label ∷ z) (map-append (λ (x : Labelled). x.label) (preorder inner) (preorder rest))
 
 pub all_under : (y : List ℤ) (left : Option (List ℤ)) (ts : Trees Labelled) → are_labelled y left ts ≡ true → Each (Under y left) (labels ts)

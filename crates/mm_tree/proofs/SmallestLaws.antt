@@ -27,25 +27,25 @@ within_at [] x k h e = absurd (omega (arith, h))
 within_at (y ∷ ys) x zero h e = inl (sym e)
 within_at (y ∷ ys) x (suc k) h e = inr (within_at ys x k (omega (arith, h)) e)
 
-within_from : (xs : List (List ℤ)) (x : List ℤ) → Contains xs x → Within x xs
+pub within_from : (xs : List (List ℤ)) (x : List ℤ) → Contains xs x → Within x xs
 within_from xs x c = within_at xs x c.0 c.1 c.2
 
-contains_from : (xs : List (List ℤ)) (x : List ℤ) → Within x xs → Contains xs x
+pub contains_from : (xs : List (List ℤ)) (x : List ℤ) → Within x xs → Contains xs x
 contains_from [] x w = absurd w
 contains_from (y ∷ ys) x (inl e) = (0, omega arith, sym e)
 contains_from (y ∷ ys) x (inr w) = let c = contains_from ys x w in (suc c.0, omega (arith, c.1), c.2)
 
-in_joined : (x : List ℤ) (xs ys : List (List ℤ)) → Within x (xs ++ ys) → Within x xs ⊎ Within x ys
+pub in_joined : (x : List ℤ) (xs ys : List (List ℤ)) → Within x (xs ++ ys) → Within x xs ⊎ Within x ys
 in_joined x [] ys w = inr w
 in_joined x (z ∷ xs) ys (inl e) = inl (inl e)
 in_joined x (z ∷ xs) ys (inr w) = elim (in_joined x xs ys w) [ inl v ↦ inl (inr v) | inr v ↦ inr v ]
 
-in_left : (x : List ℤ) (xs ys : List (List ℤ)) → Within x xs → Within x (xs ++ ys)
+pub in_left : (x : List ℤ) (xs ys : List (List ℤ)) → Within x xs → Within x (xs ++ ys)
 in_left x [] ys w = absurd w
 in_left x (z ∷ xs) ys (inl e) = inl e
 in_left x (z ∷ xs) ys (inr w) = inr (in_left x xs ys w)
 
-in_right : (x : List ℤ) (xs ys : List (List ℤ)) → Within x ys → Within x (xs ++ ys)
+pub in_right : (x : List ℤ) (xs ys : List (List ℤ)) → Within x ys → Within x (xs ++ ys)
 in_right x [] ys w = w
 in_right x (z ∷ xs) ys w = inr (in_right x xs ys w)
 
@@ -69,13 +69,13 @@ full_cases query e inner rest x w = by_test (is_full query e inner) refl w
     by_test true f (inr v) = inr (in_joined x (full_nodes query inner) (full_nodes query rest) v)
     by_test false f v = inr (in_joined x (full_nodes query inner) (full_nodes query rest) v)
 
-full_here : (query : List (List ℕ)) (e : Worded) (inner rest : Trees Worded) → is_full query e inner ≡ true → Within e.label (full_nodes query (node e inner rest))
+pub full_here : (query : List (List ℕ)) (e : Worded) (inner rest : Trees Worded) → is_full query e inner ≡ true → Within e.label (full_nodes query (node e inner rest))
 full_here query e inner rest f = subst (λ b. Within e.label (cond b (e.label ∷ []) [] ++ (full_nodes query inner ++ full_nodes query rest))) (sym f) (inl refl)
 
-full_inside : (query : List (List ℕ)) (e : Worded) (inner rest : Trees Worded) (x : List ℤ) → Within x (full_nodes query inner) → Within x (full_nodes query (node e inner rest))
+pub full_inside : (query : List (List ℕ)) (e : Worded) (inner rest : Trees Worded) (x : List ℤ) → Within x (full_nodes query inner) → Within x (full_nodes query (node e inner rest))
 full_inside query e inner rest x w = in_right x (cond (is_full query e inner) (e.label ∷ []) []) _ (in_left x (full_nodes query inner) (full_nodes query rest) w)
 
-full_behind : (query : List (List ℕ)) (e : Worded) (inner rest : Trees Worded) (x : List ℤ) → Within x (full_nodes query rest) → Within x (full_nodes query (node e inner rest))
+pub full_behind : (query : List (List ℕ)) (e : Worded) (inner rest : Trees Worded) (x : List ℤ) → Within x (full_nodes query rest) → Within x (full_nodes query (node e inner rest))
 full_behind query e inner rest x w = in_right x (cond (is_full query e inner) (e.label ∷ []) []) _ (in_right x (full_nodes query inner) (full_nodes query rest) w)
 
 -- the answers of a tree are those below its root, or else the root

@@ -23,7 +23,7 @@ use Rattle.mm_tree.proofs.OrderLaws.{Under, rises_more}
 pub label_is : (x : List ℤ) (e : Labelled) → has_label x e ≡ true → e.label ≡ x
 label_is x e = (slice_eq-Decides Decides-int_eq e.label x (has_label x e) refl).0
 
-leads_home : (x : List ℤ) (e : Labelled) → has_label x e ≡ true → leads_to x e ≡ true
+pub leads_home : (x : List ℤ) (e : Labelled) → has_label x e ≡ true → leads_to x e ≡ true
 leads_home x e h = front_is e.label x [] (sym (label_is x e h) ∙ sym (append-nil e.label))
 
 not_itself : (r : Ordering) → r ≡ ordering_reverse r → is_lt r ≡ false

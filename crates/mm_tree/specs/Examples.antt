@@ -24,6 +24,14 @@ pub bibliography_is_valid : is_valid_tree bibliography ≡ true
 unfolding bibliography is_valid_kind is_utf8 chars encode_utf8
 bibliography_is_valid = refl
 
+-- <bib><book>xml liu</book><note>xml</note><author>liu</author></bib>
+unfoldable pub notes : Tree Kind
+notes = (Element (codes "bib") [], titled (codes "book") (codes "xml liu") (titled (codes "note") (codes "xml") (titled (codes "author") (codes "liu") none)))
+
+pub notes_are_valid : is_valid_tree notes ≡ true
+unfolding notes is_valid_kind is_utf8 chars encode_utf8
+notes_are_valid = refl
+
 eleven_nodes : nodes (one bibliography) ≡ 11
 unfolding bibliography
 eleven_nodes = refl

@@ -11,7 +11,13 @@ pub mod Untouched
 pub mod Hits
 pub mod Search
 pub mod Smallest
+pub mod Elca
 pub mod Searching
 pub mod Found
+pub mod Spreads
+pub mod Owners
+pub mod Fragments
+pub mod Fragmenting
+pub mod FragmentRows
 pub mod Examples
 pub mod EditExamples

@@ -1,5 +1,5 @@
 -- The way down by labels: a node lies on it where its label is a prefix of the target's.
-use Rattle.std.specs.Prelude.{ℕ, zero, suc, ◌+◌, ◌-◌, nat_lt, ℤ, Bool, true, false, ◌&&◌, IsTrue, ◌≡◌, ◌⊎◌, ⊤, IfSome, List, [], ◌∷◌, length, slice_get, Option, Some, None, option_map, if◌then◌else◌}
+use Rattle.std.specs.Prelude.{ℕ, zero, suc, ◌+◌, ◌-◌, nat_lt, ℤ, Bool, true, false, not, ◌&&◌, IsTrue, ◌≡◌, ◌⊎◌, ⊤, IfSome, List, [], ◌∷◌, length, slice_get, Option, Some, None, option_map, if◌then◌else◌}
 use Rattle.std.specs.List.{starts_with}
 use Rattle.std.specs.Ordering.{int_eq}
 use Rattle.mm_label.specs.Label.{is_segment, last_odd, IsSegment, IsLastSegment}
@@ -14,11 +14,19 @@ use Rattle.mm_tree.specs.declared.forest.edit.Edit.TheVariants as edits
 use Rattle.mm_tree.specs.declared.forest.opening.Opening.{Opening}
 use Rattle.mm_tree.specs.Trees.{Trees, none, node, Tree, siblings}
 use Rattle.mm_tree.specs.Numbering.{Labelled, node_of}
-use Rattle.mm_tree.specs.Forests.{segment_below}
+use Rattle.mm_tree.specs.Forests.{segment_below, is_before, are_labelled}
 use Rattle.mm_tree.specs.Edits.{has_label, Change, taken_out, put_instead, put, Gap, gap_at, left_segment, right_segment}
 
 abbrev pub leads_to : List ℤ → Labelled → Bool
 leads_to x e = starts_with int_eq x e.label
+
+-- a node with the label comes before x, with all below it
+abbrev pub is_passed : List ℤ → List ℤ → Bool
+is_passed x label = is_before label x && not (starts_with int_eq x label)
+
+-- siblings as in a well-formed forest, with all below them
+abbrev pub AreSiblings : Trees Labelled → Type 0
+AreSiblings trees = (parent : List ℤ) × (left : Option (List ℤ)) × (are_labelled parent left trees ≡ true)
 
 -- the node with the label: below a sibling only where that one lies on the way
 abbrev pub found_down : List ℤ → Trees Labelled → Option (Tree Labelled)

@@ -1,7 +1,12 @@
 //! Laws of the definitions: each is the contract of a function that does nothing.
 
+ghost use Rattle.std.specs.Prelude.{◌≡◌, ℕ, List, false};
+ghost use Rattle.mm_tree.specs.Fragments.{Named, all_rows, bares, contributors, relevant, rows_of};
 ghost use Rattle.mm_tree.specs.Order.{PreorderIsLabelOrder};
+ghost use Rattle.mm_tree.specs.Owners.{ExclusiveAreFull, ExclusiveRise, SmallestAreExclusive};
+ghost use Rattle.mm_tree.specs.Search.{some_full};
 ghost use Rattle.mm_tree.specs.Smallest.{AnswersAreNodes, AnswersAreSmallest, FullNodesHaveAnswers, AnswersAreApart, AnswersRise};
+ghost use Rattle.mm_tree.specs.Trees.{Trees};
 ghost use Rattle.mm_tree.specs.Untouched.{InsertLeaves, DeleteLeaves, ReplaceLeaves};
 
 /// The nodes of a well-formed forest, each before its children and these before its later
@@ -27,4 +32,18 @@ pub fn answers_are_smallest()
     ensures reached { FullNodesHaveAnswers }
     ensures apart { AnswersAreApart }
     ensures rising { AnswersRise }
+{}
+
+/// The answers of `elca` are full nodes, and each answer of `slca` is one of them. They stand in the order
+/// of the document, each once.
+pub fn exclusive_answers()
+    ensures smallest { SmallestAreExclusive }
+    ensures full { ExclusiveAreFull }
+    ensures rising { ExclusiveRise }
+{}
+
+/// Below a node none of whose children is full, as below a smallest lowest common ancestor, the fragment
+/// keeps what MaxMatch's contributor rule keeps.
+pub fn contributors_are_relevant()
+    ensures { (query : List (List ℕ)) (inner : Trees Named) → some_full query (bares inner) ≡ false → contributors query (rows_of query inner) inner ≡ relevant query (all_rows query inner) inner }
 {}

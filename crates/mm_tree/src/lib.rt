@@ -4,7 +4,9 @@
 //! `specs/`, on plain data, and say what every answer of the store means.
 #![tactic(auto)]
 
+pub mod calls;
 mod forest;
+mod fragment;
 mod hit;
 pub mod laws;
 mod measure;
@@ -16,10 +18,11 @@ mod search;
 mod text;
 
 pub use forest::{Done, Forest, Place};
+pub use fragment::{Fragment, Fragments};
 pub use hit::{Hit, Hits};
 pub use node::{Node, Nodes};
 pub use own::own_words;
 pub use plain::{Attribute, Attributes, Kind, Plain, Plains};
 pub use refusal::{Refusal, TreeError};
-pub use search::slca;
+pub use search::{elca, slca};
 pub use text::Text;

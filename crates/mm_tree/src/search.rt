@@ -10,6 +10,8 @@ ghost use Rattle.mm_tree.specs.declared.node.Node.TheViews.{out-Node};
 ghost use Rattle.mm_tree.specs.Found.{IsFound};
 ghost use Rattle.mm_tree.specs.Searching.{either, held, own_answer, worded_node};
 
+mod owners;
+
 use crate::forest::Forest;
 use crate::node::Node;
 use crate::own::push_own_words;
@@ -17,10 +19,11 @@ use crate::plain::Kind;
 use mm_label::Label;
 use mm_list::Items;
 use mm_words::{Query, Word};
+pub use owners::elca;
 use std::alloc::{AllocError, Global};
 
 /// Adds the others' flags to the flags.
-fn join(flags: &mut Items<bool>, others: &[bool])
+pub fn join(flags: &mut Items<bool>, others: &[bool])
     requires { length others.now ≤ length flags.old }
     ensures { flags.new ≡ either flags.old others.now }
 {
@@ -31,20 +34,20 @@ fn join(flags: &mut Items<bool>, others: &[bool])
     }
 }
 
-fn all(flags: &[bool]) -> bool
+pub fn all(flags: &[bool]) -> bool
     ensures { result ≡ list_all (λ flag. flag) flags.now }
 {
     flags.iter().all(|flag| *flag)
 }
 
-fn has_word(list: &[Word], word: &Word) -> bool
+pub fn has_word(list: &[Word], word: &Word) -> bool
     ensures { result ≡ list_any (bytes_eq word.now) list.now }
 {
     list.contains(word)
 }
 
 /// For each word of the query, whether it is one of the node's own.
-fn own_flags(alloc: Global, kind: &Kind, query: &[Word]) -> Result<Items<bool>, AllocError>
+pub fn own_flags(alloc: Global, kind: &Kind, query: &[Word]) -> Result<Items<bool>, AllocError>
     ensures { IfOk result (λ flags. flags ≡ map (λ w. list_any (bytes_eq w) (own kind.now)) query.now) }
 {
     let mut list = Vec::new(alloc);
@@ -57,7 +60,7 @@ fn own_flags(alloc: Global, kind: &Kind, query: &[Word]) -> Result<Items<bool>, 
 }
 
 /// A flag for each word of the query, none of them set.
-fn no_flags(alloc: Global, query: &[Word]) -> Result<Items<bool>, AllocError>
+pub fn no_flags(alloc: Global, query: &[Word]) -> Result<Items<bool>, AllocError>
     ensures { IfOk result (λ flags. flags ≡ held query.now none) }
 {
     Ok(Items::from_vec(vec![in alloc; false; query.len()]?))
@@ -65,11 +68,11 @@ fn no_flags(alloc: Global, query: &[Word]) -> Result<Items<bool>, AllocError>
 
 /// What a search found in some trees.
 #[derive(Drop)]
-struct Found {
+pub struct Found {
     /// For each word of the query, whether it is one of a node's.
-    held: Items<bool>,
+    pub held: Items<bool>,
     /// Whether one of the roots holds every word, itself or below it.
-    some_full: bool,
+    pub some_full: bool,
 }
 
 /// What a node holds, from what was found among its children. Where it is an answer, its label is put
@@ -98,7 +101,7 @@ fn take_up(
 }
 
 /// Puts the answers among the trees behind the others, and tells what was found.
-fn search(
+pub fn search(
     alloc: Global,
     trees: &[Node],
     query: &[Word],

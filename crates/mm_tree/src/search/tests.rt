@@ -13,7 +13,7 @@ use std::process::Abort;
 use std::test::Fail;
 
 /// The labels, parted by spaces.
-fn shown(alloc: Global, labels: &[Label]) -> Result<String, AllocError> {
+pub fn shown(alloc: Global, labels: &[Label]) -> Result<String, AllocError> {
     let mut text = String::new(alloc);
     for label in labels {
         if !text.is_empty() {

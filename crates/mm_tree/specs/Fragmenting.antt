@@ -1,0 +1,21 @@
+-- What the making of a fragment knows.
+use Rattle.std.specs.Prelude.{Bool, not, ◌&&◌, List}
+use Rattle.std.specs.List.{list_all, list_any}
+use Rattle.mm_tree.specs.declared.node.Node.{Node}
+use Rattle.mm_tree.specs.declared.node.Node.TheViews.{out-Node}
+use Rattle.mm_tree.specs.Trees.{Tree}
+use Rattle.mm_tree.specs.Numbering.{node_of}
+use Rattle.mm_tree.specs.Hits.{name_of}
+use Rattle.mm_tree.specs.Search.{own}
+use Rattle.mm_tree.specs.Fragments.{Named, named, named_as, less, some}
+
+-- a node of the program with its name, and with all below it
+abbrev pub named_node : Node → Named
+named_node n = record { label = (out-Node n).label; name = name_of (out-Node n).kind; words = own (out-Node n).kind }
+
+abbrev pub named_tree : Node → Tree Named
+named_tree n = (named_as (node_of n).0, named (node_of n).1)
+
+-- the row is not full and not empty, and none of the others is a strict superset
+abbrev pub stands_out : List (List Bool) → List Bool → Bool
+stands_out all row = not (list_all (λ flag. flag) row) && (some row && not (list_any (less row) all))
