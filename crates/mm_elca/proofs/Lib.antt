@@ -1,0 +1,11 @@
+pub mod Walking
+pub mod Kids
+pub mod Clearing
+pub mod Stacking
+pub mod Sorting
+pub mod Judging
+pub mod Owned
+pub mod Owners
+pub mod Gathering
+pub mod Answering
+pub mod Cost

@@ -1,0 +1,21 @@
+use Rattle.std.proofs.Common.{true, ◌≡◌, ◌+◌, ◌*◌, ◌≤◌, [], length, get_or}
+use Rattle.std.specs.Prelude.{◌↔◌, IsTrue}
+use Rattle.mm_tree.specs.Trees.{Trees}
+use Rattle.mm_tree.specs.Numbering.{Labelled}
+use Rattle.mm_tree.specs.Forests.{is_well_formed}
+use Rattle.mm_tree.specs.Search.{list_of, lists_of, worded}
+use Rattle.mm_lists.specs.Fronts.{Full}
+use Rattle.mm_elca.specs.Owning.{Gathering}
+use Rattle.mm_elca.proofs.candidates.gather.Given as goal
+
+abbrev pub invariant-loop-i : goal.invariant-loop-i
+invariant-loop-i g l = record {
+  kept : (f : Trees Labelled) → g.X.Lists.stands l.fn.lists f ↔ g.X.Lists.stands l.lists f;
+  ground : g.X.Lists.same_ground l.fn.lists l.lists;
+  later : g.X.Lists.fault_count l.fn.lists ≤ g.X.Lists.fault_count l.lists;
+  unspent : g.X.Lists.spent l.lists ≡ true → g.X.Lists.spent l.fn.lists ≡ true;
+  cost : l.steps + l.i ≤ l.initial.steps + 2 * length l.words * l.i;
+  count : length l.found ≤ l.i;
+  value : (f : Trees Labelled) → IsTrue (is_well_formed f) → g.X.Lists.stands l.fn.lists f → Full [] (lists_of l.words (worded f))
+      → Gathering (lists_of l.words (worded f)) (list_of (get_or l.words l.own []) (worded f)) l.i l.found l.at;
+}
