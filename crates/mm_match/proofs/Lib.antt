@@ -1,0 +1,7 @@
+pub mod FrontLaws
+pub mod Ties
+pub mod ParentFacts
+pub mod Thinning
+pub mod PathFacts
+pub mod Listing
+pub mod Siblings
