@@ -1,0 +1,130 @@
+-- A stack of fragments, and what is taken off it.
+use Rattle.std.proofs.Common.{inl, inr, ◌≡◌, ◌⊎◌, ℕ, Bool, true, false, List, [], ◌∷◌, ◌++◌, refl, sym, ap, ap₂, ◌∙◌, Some, None, append_assoc}
+use Rattle.std.specs.Prelude.{if◌then◌else◌}
+use Rattle.std.proofs.lemmas.List.{reverse-append}
+use Rattle.mm_lists.specs.Fronts.{Label, is_front}
+use Rattle.mm_match.specs.declared.mark.Mark.{Mark}
+use Rattle.mm_tree.specs.declared.fragment.Fragment.{Fragment}
+use Rattle.mm_tree.specs.declared.fragment.Fragment.TheFolds.{fold_out-Fragment}
+use Rattle.mm_tree.specs.declared.fragment.Fragment.TheViews.{out-Fragment}
+use Rattle.mm_tree.specs.Trees.{Trees, none, node, Tree, one}
+use Rattle.mm_tree.specs.Forests.{and_then}
+use Rattle.mm_tree.specs.Numbering.{Labelled}
+use Rattle.mm_tree.specs.Fragments.{Named, fragment_step, fragment_tree, fragment_trees}
+use Rattle.mm_fragment.specs.Rebuild.{below, behind, take_in, rebuild}
+use Rattle.mm_fragment.specs.Showing.{shown_at}
+use Rattle.mm_fragment.specs.Piling.{piled, label_of, TakesOff, TakesBelow, shown_all}
+
+-- a fragment's own label is that of its tree's root
+pub label_out : (f : Fragment) → label_of f ≡ (out-Fragment f).label
+label_out f = ap (λ (t : Tree Named). t.0.label) (fold_out-Fragment (Tree Named) fragment_step f)
+
+-- the last of the stack comes first
+pub piled_last : (s : List Fragment) (t : Fragment) → piled (s ++ t ∷ []) ≡ node (fragment_tree t).0 (fragment_tree t).1 (piled s)
+piled_last s t = ap fragment_trees (reverse-append s (t ∷ []))
+
+pub trees_last : (s : List Fragment) (t : Fragment) (us : Trees Named) → and_then (fragment_trees (s ++ t ∷ [])) us ≡ and_then (fragment_trees s) (node (fragment_tree t).0 (fragment_tree t).1 us)
+trees_last [] t us = refl
+trees_last (u ∷ s) t us = ap (λ (r : Trees Named). node (fragment_tree u).0 (fragment_tree u).1 r) (trees_last s t us)
+
+and_none : (us : Trees Named) → and_then us none ≡ us
+and_none none = refl
+and_none (node e inner rest) = ap (λ (r : Trees Named). node e inner r) (and_none rest)
+
+below_yes : (x : Label) (t : Tree Named) (us : Trees Named) → is_front x t.0.label ≡ true → below x (node t.0 t.1 us) ≡ node t.0 t.1 (below x us)
+below_yes x t us e = ap (λ (b : Bool). if b then node t.0 t.1 (below x us) else none) e
+
+below_no : (x : Label) (t : Tree Named) (us : Trees Named) → is_front x t.0.label ≡ false → below x (node t.0 t.1 us) ≡ none
+below_no x t us e = ap (λ (b : Bool). if b then node t.0 t.1 (below x us) else none) e
+
+behind_yes : (x : Label) (t : Tree Named) (us : Trees Named) → is_front x t.0.label ≡ true → behind x (node t.0 t.1 us) ≡ behind x us
+behind_yes x t us e = ap (λ (b : Bool). if b then behind x us else node t.0 t.1 us) e
+
+behind_no : (x : Label) (t : Tree Named) (us : Trees Named) → is_front x t.0.label ≡ false → behind x (node t.0 t.1 us) ≡ node t.0 t.1 us
+behind_no x t us e = ap (λ (b : Bool). if b then behind x us else node t.0 t.1 us) e
+
+-- ---- while what lies below x is taken off
+
+-- what was taken, and what is still to be taken, is all
+pub record Taking (x : Label) (old now off : List Fragment) : Type 0 where
+  pub taken : and_then (fragment_trees off) (below x (piled now)) ≡ below x (piled old)
+  pub left : behind x (piled now) ≡ behind x (piled old)
+
+pub taking_first : (x : Label) (old : List Fragment) → Taking x old old []
+taking_first x old = record { taken = refl; left = refl }
+
+pub taking_more : (x : Label) (old now new taken more : List Fragment) (t : Fragment) → Taking x old now taken → TakesOff x now new (Some t) → more ≡ taken ++ t ∷ [] → Taking x old new more
+taking_more x old now new taken more t g h e =
+    let p : piled now ≡ node (fragment_tree t).0 (fragment_tree t).1 (piled new) = ap piled h.0 ∙ piled_last new t in
+    record {
+      taken = ap (λ (s : List Fragment). and_then (fragment_trees s) (below x (piled new))) e
+          ∙ trees_last taken t (below x (piled new))
+          ∙ ap (λ (us : Trees Named). and_then (fragment_trees taken) us) (sym (ap (below x) p ∙ below_yes x (fragment_tree t) (piled new) h.1))
+          ∙ g.taken;
+      left = sym (ap (behind x) p ∙ behind_yes x (fragment_tree t) (piled new) h.1) ∙ g.left;
+    }
+
+last_cases : (s : List Fragment) → (s ≡ []) ⊎ ((r : List Fragment) × (t : Fragment) × (s ≡ r ++ t ∷ []))
+last_cases [] = inl refl
+last_cases (u ∷ s) = elim (last_cases s) [
+  | inl e ↦ inr ([], u, ap (λ (r : List Fragment). u ∷ r) e)
+  | inr k ↦ inr (u ∷ k.0, k.1, ap (λ (r : List Fragment). u ∷ r) k.2)
+]
+
+pub taking_ended : (x : Label) (old now new taken : List Fragment) → Taking x old now taken → TakesOff x now new None → TakesBelow x old new taken
+taking_ended x old now new taken g h = elim (last_cases now) [
+  | inl e ↦ ended none (ap piled e) refl refl
+  | inr k ↦
+      let p : piled now ≡ node (fragment_tree k.1).0 (fragment_tree k.1).1 (piled k.0) = ap piled k.2 ∙ piled_last k.0 k.1 in
+      let n = h.1 k.0 k.1 k.2 in
+      ended (node (fragment_tree k.1).0 (fragment_tree k.1).1 (piled k.0)) p (below_no x (fragment_tree k.1) (piled k.0) n) (behind_no x (fragment_tree k.1) (piled k.0) n)
+]
+  where
+    ended : (us : Trees Named) → piled now ≡ us → below x us ≡ none → behind x us ≡ us → TakesBelow x old new taken
+    ended us p b c = record {
+      taken = sym (and_none (fragment_trees taken)) ∙ ap (λ (u : Trees Named). and_then (fragment_trees taken) u) (sym (ap (below x) p ∙ b)) ∙ g.taken;
+      left = ap piled h.0 ∙ p ∙ sym (ap (behind x) p ∙ c) ∙ g.left;
+    }
+
+-- ---- from the last node to the first
+
+-- some of the nodes are left, and the stack has the trees of the others
+pub record Stacking (query : List (List ℕ)) (f : Trees Labelled) (nodes left : List Mark) (stack : List Fragment) : Type 0 where
+  pub done : List Mark
+  pub all : nodes ≡ left ++ done
+  pub trees : piled stack ≡ rebuild (shown_all query f done)
+
+joined_none : (ms : List Mark) → ms ≡ ms ++ []
+joined_none [] = refl
+joined_none (m ∷ ms) = ap (λ (r : List Mark). m ∷ r) (joined_none ms)
+
+pub stacking_first : (query : List (List ℕ)) (f : Trees Labelled) (nodes : List Mark) (stack : List Fragment) → stack ≡ [] → Stacking query f nodes nodes stack
+stacking_first query f nodes stack e = record { done = []; all = joined_none nodes; trees = ap piled e }
+
+pub stacking_more : (query : List (List ℕ)) (f : Trees Labelled) (nodes left rest : List Mark) (m : Mark) (stack middle more off : List Fragment) (t : Fragment)
+    → Stacking query f nodes left stack → left ≡ rest ++ m ∷ [] → TakesBelow m.label stack middle off → fragment_tree t ≡ (shown_at query f m.label, fragment_trees off) → more ≡ middle ++ t ∷ []
+    → Stacking query f nodes rest more
+stacking_more query f nodes left rest m stack middle more off t g e h s k = record {
+  done = m ∷ g.done;
+  all = g.all ∙ ap (λ (r : List Mark). r ++ g.done) e ∙ append_assoc rest (m ∷ []) g.done;
+  trees = ap piled k ∙ piled_last middle t ∙ ap (λ (u : Tree Named). node u.0 u.1 (piled middle)) s
+      ∙ ap₂ (λ (b r : Trees Named). node (shown_at query f m.label) b r) h.taken h.left
+      ∙ ap (take_in (shown_at query f m.label)) g.trees;
+}
+
+pub stacking_ended : (query : List (List ℕ)) (f : Trees Labelled) (nodes left : List Mark) (stack : List Fragment) → Stacking query f nodes left stack → left ≡ [] → piled stack ≡ rebuild (shown_all query f nodes)
+stacking_ended query f nodes left stack g e = g.trees ∙ ap (λ (ms : List Mark). rebuild (shown_all query f ms)) (sym (g.all ∙ ap (λ (r : List Mark). r ++ g.done) e))
+
+-- ---- the root
+
+pub root_is : (old new : List Fragment) (r : Fragment) (us : Trees Named) (t : Tree Named) → piled old ≡ us → old ≡ new ++ r ∷ [] → us ≡ one t → fragment_tree r ≡ t
+root_is old new r us t p e q = same (fragment_tree r) t (piled new) none (sym (ap piled e ∙ piled_last new r) ∙ p ∙ q)
+  where
+    same : (u v : Tree Named) (a b : Trees Named) → node u.0 u.1 a ≡ node v.0 v.1 b → u ≡ v
+    same u v a b e = let h : u.0 ≡ v.0 = cc in let k : u.1 ≡ v.1 = cc in λ j. (h j, k j)
+
+pub root_none : (old new : List Fragment) (r : Fragment) → piled old ≡ none → old ≡ new ++ r ∷ [] → ⊥
+root_none old new r p e = clash (fragment_tree r) (piled new) (sym (ap piled e ∙ piled_last new r) ∙ p)
+  where
+    clash : (u : Tree Named) (a : Trees Named) → node u.0 u.1 a ≡ none → ⊥
+    clash u a e = cc

@@ -1,0 +1,17 @@
+//! Fragments: why a node is an answer. The contributors among the nodes below it, after MaxMatch (Liu and
+//! Chen: "Reasoning and Identifying Relevant Matches for XML Keyword Search", VLDB 2008), without a walk
+//! over the whole subtree: the matches are gathered from the keyword lists, and what lies on the paths to
+//! them is pruned and put together.
+#![tactic(auto)]
+
+mod calls;
+mod children;
+mod gathering;
+pub mod laws;
+mod rebuilding;
+mod showing;
+
+pub use calls::fragment;
+
+#[cfg(test)]
+mod tests;
