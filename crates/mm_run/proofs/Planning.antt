@@ -1,5 +1,6 @@
 -- What edits with a payload are answered.
-use Rattle.std.proofs.Common.{◌≡◌, ℕ, ◌≤◌, Bool, true, false, List, refl, inl, inr, Option, Some, None, Result, Ok, Err, IfOk, not, ◌&&◌, ap, sym, ◌∙◌, subst, cond, le-leb}
+use Rattle.std.proofs.Common.{◌≡◌, ℕ, ℤ, ◌≤◌, ◌<◌, Bool, true, false, List, refl, inl, inr, Option, Some, None, Result, Ok, Err, IfOk, not, ◌&&◌, ap, sym, ◌∙◌, subst, cond, le-leb}
+use Rattle.std.proofs.lemmas.Bool.{lt-leb}
 use Rattle.mm_tree.specs.declared.plain.Kind.{Kind}
 use Rattle.mm_tree.specs.declared.refusal.Refusal.{Refusal}
 use Rattle.mm_tree.specs.declared.refusal.Refusal.TheVariants.{Absent, Leaf, Xml, Deep}
@@ -48,3 +49,18 @@ pub unspelled : {X E : Type 0} (result : Result X E) (shown : X → List ℕ) (p
     → IfOk result (λ x. RefusesFirst plan.target Xml forest (shown x) forest) → ((t : Tree Kind) → ¬ Spells bytes t) → IfOk result (λ x. AnswersBytes plan bytes forest (shown x) forest)
 unspelled (Ok x) shown plan forest bytes refused none = inr (none, refused)
 unspelled (Err e) shown plan forest bytes refused none = tt
+
+deep-refusal : (why : Option Refusal) (label : List ℤ) (count : ℕ) (edited forest : Trees Labelled) (reply : List ℕ) → RefusesFirst why Deep forest reply forest → AnswersEdit (first why (Some Deep)) label count edited forest reply forest
+deep-refusal None label count edited forest reply refused = refused
+deep-refusal (Some why) label count edited forest reply refused = refused
+
+-- bytes that spell a tree of too many levels
+pub spelled-deep : {X E : Type 0} (result : Result X E) (shown : X → List ℕ) (plan : Planned) (forest : Trees Labelled) (bytes : List ℕ) → ((t : Tree Kind) × Spells bytes t × (200 < levels (one t)))
+    → IfOk result (λ x. RefusesFirst plan.target Deep forest (shown x) forest) → IfOk result (λ x. AnswersBytes plan bytes forest (shown x) forest)
+spelled-deep (Ok x) shown plan forest bytes (t, spells, deep) refused = inl (
+  t,
+  spells,
+  subst (λ (b : Bool). AnswersEdit (first plan.target (cond b (plan.refusal t) (Some Deep))) plan.label (nodes (one t)) (plan.edited t) forest (shown x) forest) (sym (lt-leb (levels (one t)) 200 deep))
+      (deep-refusal plan.target plan.label (nodes (one t)) (plan.edited t) forest (shown x) refused),
+)
+spelled-deep (Err e) shown plan forest bytes found refused = tt

@@ -1,163 +1,169 @@
--- Tokens in the order in which they are read: a tag, or all the characters up to the next tag.
-use Rattle.std.proofs.Common.{◌≡◌, ℕ, suc, ◌+◌, ◌-◌, true, false, cond, List, [], ◌∷◌, ◌++◌, length, Option, Some, None, refl, sym, ap, subst, ◌∙◌, append_assoc, arith}
-use Rattle.std.specs.Prelude.{IsTrue, map}
-use Rattle.std.specs.List.{flat_map, AllByRecursion, list_all}
-use Rattle.std.specs.Str.{bytes_eq}
-use Rattle.mm_tree.specs.declared.Kind.{Kind}
-use Rattle.mm_tree.specs.declared.Kind.TheVariants.{Element, Words}
-use Rattle.mm_tree.specs.Characters.{is_space}
-use Rattle.mm_tree.specs.Trees.{none, Tree}
-use Rattle.mm_xml.specs.declared.token.Tag.{Tag}
-use Rattle.mm_xml.specs.declared.token.Tag.TheVariants.{Open, Empty, Close}
-use Rattle.mm_xml.specs.Grammar.{Token, Tagged, Char, is_token, is_text_char, spelled, Begin, End, name_of, text_brackets, tag_brackets, brackets, IsBareOutside}
-use Rattle.mm_xml.specs.Reading.{◌>>=◌, Frame, State, Before, Inside, After, fresh, with_child, frame_tree, depth_of, place_all, text_step}
-use Rattle.mm_xml.proofs.Options.{both}
-use Rattle.mm_xml.proofs.Ascii.{text_same, char_same}
-use Rattle.mm_xml.proofs.Tokens.{Stops}
+-- What texts are made of.
+use Rattle.std.proofs.Common.{◌≡◌, ℕ, zero, suc, ◌+◌, true, false, cond, ◌&&◌, ◌||◌, not, List, [], ◌∷◌, ◌++◌, Some, eqb, leb, refl, sym, ap, subst, ◌∙◌, append_assoc, arith, ◌⊎◌, inl, inr}
+use Rattle.std.specs.Prelude.{IsTrue}
+use Rattle.std.specs.List.{flat_map, list_all}
+use Rattle.std.specs.Str.{chars, encode_utf8_all}
+use Rattle.std.proofs.lemmas.Bool.{eqb-true}
+use Rattle.std.proofs.lemmas.List.{append-nil}
+use Rattle.mm_tree.specs.Characters.{is_name}
+use Rattle.mm_xml.specs.Letters.{referred, is_free}
+use Rattle.mm_xml.specs.Syntax.{Literal, Reference, is_literal, not_semicolon, is_some, named, Token, Data, Section, Comment, Instruction, Start, Close, Doctype, is_token, spelled}
+use Rattle.mm_xml.specs.Grammar.{unbroken, is_textual, normal}
+use Rattle.mm_xml.specs.Productions.{is_plain, lines, PartBy, text_of, SpellsRun, ends_run, ends_markup}
+use Rattle.mm_xml.proofs.Spans.{both, both_true}
+use Rattle.mm_xml.proofs.Attributes.{name_chars}
+use Rattle.mm_xml.proofs.Whole.{either_true}
+use Rattle.mm_xml.proofs.Joins.{all_append, part_join, join_markup, join_nothing, part_of, part_of_one, no_part, plain_append, name_plain, no_return, last_or, last_append, squares}
 
-abbrev pub AreTokens : List Token → Type 0
-AreTokens ts = AllByRecursion (λ x. IsTrue (is_token x)) ts
+-- ---- nothing
 
-pub append_none : {A : Type 0} (xs : List A) → xs ++ [] ≡ xs
-append_none [] = refl
-append_none (x ∷ xs) = ap (λ ys. x ∷ ys) (append_none xs)
+pub no_text : SpellsRun [] []
+no_text = ([], no_part, refl, refl)
 
--- the characters at the front, and the tokens after them
-abbrev pub leading : List Token → List ℕ
-leading [] = []
-leading (Char c ∷ ts) = c ∷ leading ts
-leading (Tagged tag name ∷ ts) = []
+-- ---- character data
 
-abbrev pub behind : List Token → List Token
-behind [] = []
-behind (Char c ∷ ts) = behind ts
-behind (Tagged tag name ∷ ts) = Tagged tag name ∷ ts
+abbrev literals : List ℕ → List Token
+literals [] = []
+literals (c ∷ cs) = Data (Literal c) ∷ literals cs
 
--- no character is at the front
-abbrev pub NoChar : List Token → Type 0
-NoChar [] = Unit {0}
-NoChar (Char c ∷ ts) = ⊥
-NoChar (Tagged tag name ∷ ts) = Unit {0}
+literals_spelled : (cs : List ℕ) → flat_map spelled (literals cs) ≡ cs
+literals_spelled [] = refl
+literals_spelled (c ∷ cs) = ap (λ (x : List ℕ). c ∷ x) (literals_spelled cs)
 
-pub no_char_behind : (ts : List Token) → NoChar (behind ts)
-no_char_behind [] = tt
-no_char_behind (Char c ∷ ts) = no_char_behind ts
-no_char_behind (Tagged tag name ∷ ts) = tt
+literals_text : (cs : List ℕ) → flat_map text_of (literals cs) ≡ cs
+literals_text [] = refl
+literals_text (c ∷ cs) = ap (λ (x : List ℕ). c ∷ x) (literals_text cs)
 
-pub leading_text : (ts : List Token) → AreTokens ts → list_all is_text_char (leading ts) ≡ true
-leading_text [] h = refl
-leading_text (Char c ∷ ts) h = rw (h.0, leading_text ts h.1) refl
-leading_text (Tagged tag name ∷ ts) h = refl
+literals_each : (cs : List ℕ) → list_all is_literal cs ≡ true → list_all is_token (literals cs) ≡ true
+literals_each [] h = refl
+literals_each (c ∷ cs) h = let w = both (is_literal c) (list_all is_literal cs) h in both_true (is_literal c) _ w.0 (literals_each cs w.1)
 
-pub behind_tokens : (ts : List Token) → AreTokens ts → AreTokens (behind ts)
-behind_tokens [] h = h
-behind_tokens (Char c ∷ ts) h = behind_tokens ts h.1
-behind_tokens (Tagged tag name ∷ ts) h = h
+literals_textual : (cs : List ℕ) → list_all is_textual (literals cs) ≡ true
+literals_textual [] = refl
+literals_textual (c ∷ cs) = literals_textual cs
 
--- how the tokens are spelled, the characters at the front by themselves
-pub spelled_leading : (ts : List Token) → AreTokens ts → flat_map spelled ts ≡ leading ts ++ flat_map spelled (behind ts)
-spelled_leading [] h = refl
-spelled_leading (Char c ∷ ts) h = ap (λ (r : List ℕ). r ++ flat_map spelled ts) (char_same c h.0) ∙ ap (λ (r : List ℕ). c ∷ r) (spelled_leading ts h.1)
-spelled_leading (Tagged tag name ∷ ts) h = refl
+abbrev close_mark : List ℕ
+close_mark = 93 ∷ 93 ∷ 62 ∷ []
 
-pub stops_behind : (ts : List Token) → NoChar ts → Stops (flat_map spelled ts)
-stops_behind [] h = tt
-stops_behind (Char c ∷ ts) h = absurd h
-stops_behind (Tagged Open name ∷ ts) h = refl
-stops_behind (Tagged Empty name ∷ ts) h = refl
-stops_behind (Tagged Close name ∷ ts) h = refl
+-- so many square brackets before the characters
+abbrev behind_squares : ℕ → List ℕ → List ℕ
+behind_squares zero cs = cs
+behind_squares (suc n) cs = 93 ∷ behind_squares n cs
 
-pub brackets_leading : (ts : List Token) (run : List ℕ) → brackets run ts ≡ brackets (run ++ leading ts) (behind ts)
-brackets_leading [] run = ap (λ (r : List ℕ). brackets r []) (sym (append_none run))
-brackets_leading (Char c ∷ ts) run = brackets_leading ts (run ++ c ∷ []) ∙ ap (λ (r : List ℕ). brackets r (behind ts)) (append_assoc run (c ∷ []) (leading ts))
-brackets_leading (Tagged tag name ∷ ts) run = ap (λ (r : List ℕ). brackets r (Tagged tag name ∷ ts)) (sym (append_none run))
+one_square : (n : ℕ) (cs : List ℕ) → behind_squares n (93 ∷ cs) ≡ 93 ∷ behind_squares n cs
+one_square zero cs = refl
+one_square (suc n) cs = ap (λ (x : List ℕ). 93 ∷ x) (one_square n cs)
 
-pub bare_behind : (d : ℕ) (ts : List Token) → IsBareOutside d ts → IsBareOutside d (behind ts)
-bare_behind d [] h = h
-bare_behind d (Char c ∷ ts) h = bare_behind d ts h.1
-bare_behind d (Tagged tag name ∷ ts) h = h
-
--- what the characters before a tag say by themselves
-pub parted : (text : List ℕ) (ts : List Token) → NoChar ts → brackets text ts ≡ text_brackets text ++ brackets [] ts
-parted text [] h = sym (append_none (text_brackets text))
-parted text (Char c ∷ ts) h = absurd h
-parted text (Tagged tag name ∷ ts) h = refl
-
--- ---- a run of text as tokens
-
-pub run_brackets : (text run : List ℕ) (ts : List Token) → brackets run (map Char text ++ ts) ≡ brackets (run ++ text) ts
-run_brackets [] run ts = ap (λ (r : List ℕ). brackets r ts) (sym (append_none run))
-run_brackets (c ∷ text) run ts = run_brackets text (run ++ c ∷ []) ts ∙ ap (λ (r : List ℕ). brackets r ts) (append_assoc run (c ∷ []) text)
-
-pub run_tokens : (text : List ℕ) (ts : List Token) → list_all is_text_char text ≡ true → AreTokens ts → AreTokens (map Char text ++ ts)
-run_tokens [] ts h each = each
-run_tokens (c ∷ text) ts h each = let w = both (is_text_char c) (list_all is_text_char text) h in (w.0, run_tokens text ts w.1 each)
-
-pub run_spelled : (text : List ℕ) (ts : List Token) → list_all is_text_char text ≡ true → flat_map spelled (map Char text ++ ts) ≡ text ++ flat_map spelled ts
-run_spelled [] ts h = refl
-run_spelled (c ∷ text) ts h =
-    let w = both (is_text_char c) (list_all is_text_char text) h in
-    ap (λ (r : List ℕ). r ++ flat_map spelled (map Char text ++ ts)) (char_same c w.0) ∙ ap (λ (r : List ℕ). c ∷ r) (run_spelled text ts w.1)
-
-pub run_bare : (d : ℕ) (text : List ℕ) (ts : List Token) → IsBareOutside (suc d) ts → IsBareOutside (suc d) (map Char text ++ ts)
-run_bare d [] ts h = h
-run_bare d (c ∷ text) ts h = ((λ z. absurd (omega (arith, z))), run_bare d text ts h)
-
--- what is spelled where no text goes on
-pub no_char_here : (ts : List Token) (rest : List ℕ) → AreTokens ts → rest ≡ flat_map spelled ts → Stops rest → NoChar ts
-no_char_here [] rest each e h = tt
-no_char_here (Char c ∷ ts) rest each e h =
-    clash c (subst Stops (e ∙ ap (λ (r : List ℕ). r ++ flat_map spelled ts) (char_same c each.0)) h) each.0
+more_squares : (n : ℕ) (cs : List ℕ) → behind_squares n (93 ∷ cs) ≡ behind_squares (n + 1) cs
+more_squares n cs = one_square n cs ∙ ap (λ m. behind_squares m cs) (one_more n)
   where
-    clash : (c : ℕ) → is_text_char c ≡ false → is_text_char c ≡ true → ⊥
-    clash c fails passes = let both_ways : false ≡ true = sym fails ∙ passes in cc
-no_char_here (Tagged tag name ∷ ts) rest each e h = tt
+    one_more : (n : ℕ) → suc n ≡ n + 1
+    one_more n = omega arith
 
--- ---- where a span leads
+free_tail : (n : ℕ) (cs : List ℕ) → is_free close_mark (behind_squares n cs) ≡ true → is_free close_mark cs ≡ true
+free_tail zero cs h = h
+free_tail (suc n) cs h = free_tail n cs (both _ (is_free close_mark (behind_squares n cs)) h).1
 
-abbrev pub IsDeep : Option State → ℕ → Type 0
-IsDeep None n = Unit {0}
-IsDeep (Some s) n = depth_of s ≡ n
+no_close : (n : ℕ) (cs : List ℕ) → is_free close_mark (behind_squares (suc (suc n)) (62 ∷ cs)) ≡ true → ⊥
+no_close zero cs h = cc
+no_close (suc n) cs h = no_close n cs (free_tail (suc zero) (behind_squares (suc (suc n)) (62 ∷ cs)) h)
 
-abbrev pub depth_after : Tag → ℕ → ℕ
-depth_after Open n = n + 1
-depth_after Empty n = n
-depth_after Close n = n - 1
+not_closed : (n c : ℕ) (cs : List ℕ) → is_free close_mark (behind_squares n (c ∷ cs)) ≡ true → not (eqb c 62 && leb 2 n) ≡ true
+not_closed n c cs h = elim (eqb c 62) as (λ b. eqb c 62 ≡ b → not (b && leb 2 n) ≡ true) [
+  | false ↦ λ e. refl
+  | true ↦ λ e. few n (ap (λ m. is_free close_mark (behind_squares n (m ∷ cs))) (sym (eqb-true c 62 e)) ∙ h)
+] refl
+  where
+    few : (n : ℕ) → is_free close_mark (behind_squares n (62 ∷ cs)) ≡ true → not (leb 2 n) ≡ true
+    few zero k = refl
+    few (suc zero) k = refl
+    few (suc (suc n)) k = absurd (no_close n cs k)
 
--- where a tag leads
-tag_inside : (tag : Tag) (name : List ℕ) (f : Frame) (fs : List Frame) → IsDeep (place_all (Inside f fs) (tag_brackets tag name)) (depth_after tag (suc (length fs)))
-tag_inside Open name f fs = omega arith
-tag_inside Empty name f fs = elim (bytes_eq name name) as (λ b. IsDeep (cond b (Some (Inside (with_child f (frame_tree (fresh (Element name [])))) fs)) None >>= λ x. Some x) (suc (length fs))) [ true ↦ refl | false ↦ tt ]
-tag_inside Close name f [] = elim (bytes_eq name (name_of f.kind)) as (λ b. IsDeep (cond b (Some (After (frame_tree f))) None >>= λ x. Some x) 0) [ true ↦ refl | false ↦ tt ]
-tag_inside Close name f (g ∷ gs) = elim (bytes_eq name (name_of f.kind)) as (λ b. IsDeep (cond b (Some (Inside (with_child g (frame_tree f)) gs)) None >>= λ x. Some x) (suc (suc (length gs)) - 1)) [ true ↦ omega arith | false ↦ tt ]
+literals_whole : (n : ℕ) (cs : List ℕ) → is_free close_mark (behind_squares n cs) ≡ true → unbroken n (literals cs) ≡ true
+literals_whole n [] h = refl
+literals_whole n (c ∷ cs) h = elim (eqb c 93) as (λ b. eqb c 93 ≡ b → cond b (unbroken (n + 1) (literals cs)) (not (eqb c 62 && leb 2 n) && unbroken 0 (literals cs)) ≡ true) [
+  | true ↦ λ e. literals_whole (n + 1) cs (ap (λ (x : List ℕ). is_free close_mark x) (sym (more_squares n cs)) ∙ ap (λ m. is_free close_mark (behind_squares n (m ∷ cs))) (sym (eqb-true c 93 e)) ∙ h)
+  | false ↦ λ e. both_true _ _ (not_closed n c cs h) (literals_whole 0 cs (both _ (is_free close_mark cs) (free_tail n (c ∷ cs) h)).1)
+] refl
 
-tag_before : (tag : Tag) (name : List ℕ) → IsDeep (place_all Before (tag_brackets tag name)) (depth_after tag 0)
-tag_before Open name = refl
-tag_before Empty name = elim (bytes_eq name name) as (λ b. IsDeep (cond b (Some (After (frame_tree (fresh (Element name []))))) None >>= λ x. Some x) 0) [ true ↦ refl | false ↦ tt ]
-tag_before Close name = tt
+pub char_data : (text : List ℕ) → IsTrue (list_all is_plain text) → IsTrue (list_all is_literal text) → IsTrue (is_free (93 ∷ 93 ∷ 62 ∷ []) text) → SpellsRun (encode_utf8_all text) text
+char_data text plain each free =
+    let ts = literals text in
+    let part = part_of ts (literals_each text each) (ap (λ (x : List ℕ). list_all is_plain x) (literals_spelled text) ∙ plain) (literals_whole 0 text free) in
+    (ts, subst (λ (x : List ℕ). PartBy (encode_utf8_all x) ts) (literals_spelled text) part, literals_textual text, literals_text text)
 
-tag_after : (t : Tree Kind) (tag : Tag) (name : List ℕ) → IsDeep (place_all (After t) (tag_brackets tag name)) (depth_after tag 0)
-tag_after t Open name = tt
-tag_after t Empty name = tt
-tag_after t Close name = tt
+-- ---- markup
 
-pub tag_leads : (s : State) (tag : Tag) (name : List ℕ) → IsDeep (place_all s (tag_brackets tag name)) (depth_after tag (depth_of s))
-tag_leads Before tag name = tag_before tag name
-tag_leads (Inside f fs) tag name = tag_inside tag name f fs
-tag_leads (After t) tag name = tag_after t tag name
+pub reference : (body : List ℕ) (c : ℕ) → IsTrue (list_all is_plain body) → IsTrue (list_all not_semicolon body) → referred body ≡ Some c → SpellsRun (encode_utf8_all (38 ∷ (body ++ 59 ∷ []))) (c ∷ [])
+reference body c plain free e = (
+  Data (Reference body) ∷ [],
+  part_of_one (Data (Reference body)) (both_true _ _ free (ap is_some e)) (plain_append body (59 ∷ []) plain refl) refl,
+  refl,
+  ap (λ o. named o ++ []) e,
+)
 
-pub bare_tag : (tag : Tag) (name : List ℕ) (n : ℕ) (ts : List Token) → IsBareOutside n (Tagged tag name ∷ ts) → IsBareOutside (depth_after tag n) ts
-bare_tag Open name n ts h = h
-bare_tag Empty name n ts h = h
-bare_tag Close name n ts h = h
+pub section : (cs : List ℕ) → IsTrue (is_token (Section cs)) → IsTrue (list_all is_plain cs) → SpellsRun (encode_utf8_all (spelled (Section cs))) cs
+section cs is plain = (Section cs ∷ [], part_of_one (Section cs) is (plain_append cs (93 ∷ 93 ∷ 62 ∷ []) plain refl) refl, refl, append-nil cs)
 
-pub tag_bare : (tag : Tag) (name : List ℕ) (n : ℕ) (ts : List Token) → IsBareOutside (depth_after tag n) ts → IsBareOutside n (Tagged tag name ∷ ts)
-tag_bare Open name n ts h = h
-tag_bare Empty name n ts h = h
-tag_bare Close name n ts h = h
+pub comment : (cs : List ℕ) → IsTrue (is_token (Comment cs)) → IsTrue (list_all is_plain cs) → SpellsRun (encode_utf8_all (spelled (Comment cs))) []
+comment cs is plain = (Comment cs ∷ [], part_of_one (Comment cs) is (plain_append cs (45 ∷ 45 ∷ 62 ∷ []) plain refl) refl, refl, refl)
 
--- where a run of text leads
-pub text_lands : (f : Frame) (fs : List Frame) (text : List ℕ) → list_all is_text_char text ≡ true → place_all (Inside f fs) (text_brackets text) ≡ text_step (Inside f fs) text
-text_lands f fs text h =
-    ap (λ (w : List ℕ). place_all (Inside f fs) (cond (list_all is_space text) [] (Begin (Words w) ∷ End [] ∷ []))) (text_same text h)
-    ∙ elim (list_all is_space text) as (λ b. place_all (Inside f fs) (cond b [] (Begin (Words text) ∷ End [] ∷ [])) ≡ Some (Inside (cond b f (with_child f (Words text, none))) fs)) [ true ↦ refl | false ↦ refl ]
+pub instruction : (name cs : List ℕ) → IsTrue (is_token (Instruction name cs)) → IsTrue (list_all is_plain cs) → SpellsRun (encode_utf8_all (spelled (Instruction name cs))) []
+instruction name cs is plain = (Instruction name cs ∷ [], part_of_one (Instruction name cs) is (plain_append name _ (name_plain name (name_chars name (both (is_name name) _ is).0)) (plain_append cs (63 ∷ 62 ∷ []) plain refl)) refl, refl, refl)
+
+-- ---- one behind the other
+
+text_append : (xs ys : List Token) → flat_map text_of (xs ++ ys) ≡ flat_map text_of xs ++ flat_map text_of ys
+text_append [] ys = refl
+text_append (x ∷ xs) ys = ap (λ (r : List ℕ). text_of x ++ r) (text_append xs ys) ∙ sym (append_assoc (text_of x) (flat_map text_of xs) (flat_map text_of ys))
+
+-- a square bracket that counts comes last
+last_square : (xs : List Token) (d n : ℕ) → (eqb d 93 ≡ false → n ≡ 0) → eqb (last_or d (flat_map spelled xs)) 93 ≡ false → squares n xs ≡ 0
+last_square [] d n h e = h e
+last_square (Data (Literal c) ∷ ts) d n h e = last_square ts c (cond (eqb c 93) (n + 1) 0) (λ k. ap (λ b. cond b (n + 1) 0) k) e
+last_square (Data (Reference body) ∷ ts) d n h e = last_square ts (last_or d (spelled (Data (Reference body)))) 0 (λ k. refl) (ap (λ m. eqb m 93) (sym (last_append d (spelled (Data (Reference body))) (flat_map spelled ts))) ∙ e)
+last_square (Section cs ∷ ts) d n h e = last_square ts (last_or d (spelled (Section cs))) 0 (λ k. refl) (ap (λ m. eqb m 93) (sym (last_append d (spelled (Section cs)) (flat_map spelled ts))) ∙ e)
+last_square (Comment cs ∷ ts) d n h e = last_square ts (last_or d (spelled (Comment cs))) 0 (λ k. refl) (ap (λ m. eqb m 93) (sym (last_append d (spelled (Comment cs)) (flat_map spelled ts))) ∙ e)
+last_square (Instruction name cs ∷ ts) d n h e = last_square ts (last_or d (spelled (Instruction name cs))) 0 (λ k. refl) (ap (λ m. eqb m 93) (sym (last_append d (spelled (Instruction name cs)) (flat_map spelled ts))) ∙ e)
+last_square (Start empty name ws gap ∷ ts) d n h e = last_square ts (last_or d (spelled (Start empty name ws gap))) 0 (λ k. refl) (ap (λ m. eqb m 93) (sym (last_append d (spelled (Start empty name ws gap)) (flat_map spelled ts))) ∙ e)
+last_square (Close name gap ∷ ts) d n h e = last_square ts (last_or d (spelled (Close name gap))) 0 (λ k. refl) (ap (λ m. eqb m 93) (sym (last_append d (spelled (Close name gap)) (flat_map spelled ts))) ∙ e)
+last_square (Doctype gap name ext after ∷ ts) d n h e = last_square ts (last_or d (spelled (Doctype gap name ext after))) 0 (λ k. refl) (ap (λ m. eqb m 93) (sym (last_append d (spelled (Doctype gap name ext after)) (flat_map spelled ts))) ∙ e)
+
+-- `>` or `;` comes last
+markup_last : (cs : List ℕ) (d : ℕ) → ends_markup cs ≡ true → (last_or d cs ≡ 62) ⊎ (last_or d cs ≡ 59)
+markup_last [] d h = absurd cc
+markup_last (c ∷ []) d h = elim (either_true (eqb c 62) (eqb c 59) h) [ inl e ↦ inl (eqb-true c 62 e) | inr e ↦ inr (eqb-true c 59 e) ]
+markup_last (c ∷ e ∷ cs) d h = markup_last (e ∷ cs) c h
+
+-- a run that ends there
+data Meeting (b : List ℕ) : Type 0 where
+  Nothing : chars b ≡ [] → Meeting b
+  Markup : (k : ℕ) → (r : List ℕ) → chars b ≡ k ∷ r → (k ≡ 60) ⊎ (k ≡ 38) → Meeting b
+
+meeting : (b : List ℕ) → ends_run (chars b) ≡ true → Meeting b
+meeting b h = from (chars b) refl h
+  where
+    mark : (c : ℕ) → cond (eqb c 60) true (eqb c 38) ≡ true → (c ≡ 60) ⊎ (c ≡ 38)
+    mark c h = elim (eqb c 60) as (λ t. eqb c 60 ≡ t → cond t true (eqb c 38) ≡ true → (c ≡ 60) ⊎ (c ≡ 38)) [ true ↦ λ e k. inl (eqb-true c 60 e) | false ↦ λ e k. inr (eqb-true c 38 k) ] refl h
+
+    from : (cs : List ℕ) → chars b ≡ cs → ends_run cs ≡ true → Meeting b
+    from [] e h = Nothing e
+    from (c ∷ cs) e h = Markup c cs e (mark c h)
+
+pub joined_text : (a b text more : List ℕ) → SpellsRun a text → SpellsRun b more → IsTrue (ends_run (chars b) || ends_markup (lines a)) → SpellsRun (a ++ b) (text ++ more)
+joined_text a b text more s u h = elim (either_true (ends_run (chars b)) (ends_markup (lines a)) h) [
+  | inl k ↦ elim (meeting b k) [
+    | Nothing e ↦ joined (join_nothing a b s.0 u.0 s.1 u.1 e)
+    | Markup k r e m ↦ joined (join_markup a b s.0 u.0 s.1 u.1 (k, r, e, m))
+  ]
+  | inr k ↦ elim (markup_last (lines a) 0 k) [
+    | inl e ↦ joined (behind (ap (λ n. eqb n 10) e) (ap (λ n. eqb n 93) e))
+    | inr e ↦ joined (behind (ap (λ n. eqb n 10) e) (ap (λ n. eqb n 93) e))
+  ]
+]
+  where
+    joined : PartBy (a ++ b) (s.0 ++ u.0) → SpellsRun (a ++ b) (text ++ more)
+    joined part = (s.0 ++ u.0, part, all_append is_textual s.0 u.0 s.2 u.2, text_append s.0 u.0 ∙ (λ i. s.3 i ++ u.3 i))
+
+    behind : eqb (last_or 0 (lines a)) 10 ≡ false → eqb (last_or 0 (lines a)) 93 ≡ false → PartBy (a ++ b) (s.0 ++ u.0)
+    behind feed square = part_join a b s.0 u.0 s.1 u.1 (ap (λ r. normal r (chars b)) (no_return (chars a) (lines a) refl feed)) (ap (λ n. unbroken n u.0) (last_square s.0 0 0 (λ k. refl) (ap (λ (x : List ℕ). eqb (last_or 0 x) 93) (sym s.1.spelled_so) ∙ square)))

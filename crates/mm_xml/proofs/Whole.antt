@@ -1,154 +1,283 @@
 -- What is read is spelled so, and what is spelled so is read.
-use Rattle.std.proofs.Common.{◌≡◌, ℕ, zero, suc, ◌≤◌, true, List, [], ◌∷◌, ◌++◌, length, Option, Some, None, refl, sym, ap, subst, ◌∙◌, arith}
-use Rattle.std.specs.Prelude.{map}
+use Rattle.std.proofs.Common.{◌≡◌, ℕ, zero, suc, ◌≤◌, Bool, true, false, cond, ◌||◌, List, [], ◌∷◌, ◌++◌, length, map, Option, Some, None, refl, sym, ap, ◌∙◌, arith, ◌⊎◌, inl, inr}
+use Rattle.std.specs.Str.{bytes_eq, encode_utf8_all}
 use Rattle.std.specs.List.{flat_map, list_all}
-use Rattle.std.specs.Str.{encode_utf8_all}
 use Rattle.std.proofs.lemmas.List.{length-append}
+use Rattle.std.proofs.lemmas.Slice.Eq.{bytes_eq-Decides}
 use Rattle.mm_tree.specs.declared.Kind.{Kind}
-use Rattle.mm_tree.specs.Trees.{Tree}
-use Rattle.mm_xml.specs.declared.token.Tag.{Tag}
-use Rattle.mm_xml.specs.declared.token.Tag.TheVariants.{Open, Empty, Close}
-use Rattle.mm_xml.specs.Grammar.{Token, Tagged, Char, is_name, is_text_char, spelled, spelled_tag, Bracket, text_brackets, tag_brackets, brackets, IsBareOutside, SpellsElement}
-use Rattle.mm_xml.specs.Reading.{◌>>=◌, Span, Mark, Run, Frame, State, Before, Inside, After, depth_of, place_all, finished, text_step, span_step, span_at, read_from, read_all}
-use Rattle.mm_xml.proofs.Options.{bind_some, some_is}
-use Rattle.mm_xml.proofs.Ascii.{name_same}
-use Rattle.mm_xml.proofs.Tokens.{IsLongest, Takes, span_takes, mark_again, run_again}
-use Rattle.mm_xml.proofs.Machine.{build, place_all_append, build_full, build_sound}
-use Rattle.mm_xml.proofs.Runs.{AreTokens, leading, behind, no_char_behind, leading_text, behind_tokens, spelled_leading, stops_behind, brackets_leading, bare_behind, parted, run_brackets, run_tokens, run_spelled, run_bare, no_char_here, IsDeep, depth_after, tag_leads, bare_tag, tag_bare, text_lands}
+use Rattle.mm_tree.specs.declared.Kind.TheVariants.{Element, Words}
+use Rattle.mm_tree.specs.Characters.{is_space}
+use Rattle.mm_tree.specs.Trees.{none, Tree, one}
+use Rattle.mm_xml.specs.Syntax.{Declaration, is_declaration, Literal, Reference, attribute_of, Token, Data, Section, Comment, Instruction, Start, Close, Doctype, is_token, spelled}
+use Rattle.mm_xml.specs.Grammar.{Bracket, Begin, End, name_of, text_brackets, start_brackets, brackets, unbroken, outside, is_textual, bracketing, is_document, has_form, spelled_first, SpelledBy, Spells, characters}
+use Rattle.mm_xml.specs.Lexing.{◌>>=◌, Found, token_at}
+use Rattle.mm_xml.specs.Telling.{Sign, told}
+use Rattle.mm_xml.specs.Machine.{State, Before, Inside, After, with_child, place, place_all, finished, build, step, cleared, leaf_at, text_step, open_step, sign_step, Order, sign_may, sign_next, may, next, in_turn, accept, read_from, document, text, read_as, or_else, read_plain, read_behind, read_all}
+use Rattle.mm_xml.specs.Declaring.{after_declaration}
+use Rattle.mm_xml.proofs.Spans.{taken, some, no, some_is, bind_some, both, both_true}
+use Rattle.mm_xml.proofs.Builds.{place_all_append, build_full, build_sound}
+use Rattle.mm_xml.proofs.Turns.{turns, text_turns, accept_is}
+use Rattle.mm_xml.proofs.Content.{token_takes, token_again}
+use Rattle.mm_xml.proofs.Declared.{declaration_takes, declaration_again, undeclared}
+
+-- ---- what tokens tell, and what they place
+
+same : (name : List ℕ) → bytes_eq name name ≡ true
+same name = (bytes_eq-Decides name name).1 refl
+
+last_one : (o : Option State) → o ≡ (o >>= λ x. Some x)
+last_one None = refl
+last_one (Some x) = refl
+
+leaf_is : (s : State) (kind : Kind) → leaf_at s kind ≡ place_all s (Begin kind ∷ End (name_of kind) ∷ [])
+leaf_is Before kind = ap (λ b. cond b (Some (After (kind, none))) None >>= λ x. Some x) (sym (same (name_of kind)))
+leaf_is (Inside f fs) kind = ap (λ b. cond b (Some (Inside (with_child f (kind, none)) fs)) None >>= λ x. Some x) (sym (same (name_of kind)))
+leaf_is (After t) kind = refl
+
+pub text_is : (s : State) (run : List ℕ) → text_step s run ≡ place_all s (text_brackets run)
+text_is s run =
+    elim (list_all is_space run) as (λ b. cond b (Some s) (leaf_at s (Words (encode_utf8_all run))) ≡ place_all s (cond b [] (Begin (Words (encode_utf8_all run)) ∷ End [] ∷ []))) [
+      | true ↦ refl
+      | false ↦ leaf_is s (Words (encode_utf8_all run))
+    ]
+
+open_is : (s : State) (empty : Bool) (kind : Kind) → open_step s empty kind ≡ place_all s (Begin kind ∷ (cond empty (End (name_of kind) ∷ []) []))
+open_is s true kind = leaf_is s kind
+open_is s false kind = last_one (place s (Begin kind))
+
+then_place : (o : Option State) (f : State → Option State) (ps : List Bracket) → ((s : State) → f s ≡ place_all s ps) → (o >>= f) ≡ (o >>= λ x. place_all x ps)
+then_place None f ps e = refl
+then_place (Some s) f ps e = e s
+
+placed : (s : State) (run : List ℕ) (f : State → Option State) (ps : List Bracket) → ((x : State) → f x ≡ place_all x ps) → (text_step s run >>= f) ≡ place_all s (text_brackets run ++ ps)
+placed s run f ps e = then_place (text_step s run) f ps e ∙ ap (λ o. o >>= λ x. place_all x ps) (text_is s run) ∙ sym (place_all_append s (text_brackets run) ps)
+
+pub step_is : (s : State) (run : List ℕ) (t : Token) → sign_step s run (told t) ≡ step s run t
+step_is s run (Data (Literal c)) = refl
+step_is s run (Data (Reference body)) = refl
+step_is s run (Section cs) = refl
+step_is s run (Comment cs) = refl
+step_is s run (Instruction name cs) = refl
+step_is s run (Start empty name attributes gap) =
+    ap (λ o. o >>= cleared) (placed s run (λ x. open_step x empty (Element (encode_utf8_all name) (map attribute_of attributes))) (start_brackets empty name attributes) (λ x. open_is x empty (Element (encode_utf8_all name) (map attribute_of attributes))))
+step_is s run (Close name gap) = ap (λ o. o >>= cleared) (placed s run (λ x. place x (End (encode_utf8_all name))) (End (encode_utf8_all name) ∷ []) (λ x. last_one (place x (End (encode_utf8_all name)))))
+step_is s run (Doctype gap name ext after) = refl
+
+told_bind : {B : Type 0} (o : Found Token) (f : Sign × List ℕ → Option B) → ((o >>= λ x. Some (told x.0, x.1)) >>= f) ≡ (o >>= λ y. f (told y.0, y.1))
+told_bind None f = refl
+told_bind (Some y) f = refl
+
+abbrev onward : ℕ → State → List ℕ → Order → Token × List ℕ → Option (Tree Kind)
+onward n s run o x = cond (may o x.0) (step s run x.0 >>= λ y. read_from n y.0 y.1 (next o x.0) x.1) None
+
+-- one token, and then the others
+read_one : (n : ℕ) (s : State) (run : List ℕ) (o : Order) (c : ℕ) (cs : List ℕ) → read_from (suc n) s run o (c ∷ cs) ≡ (token_at (c ∷ cs) >>= λ x. onward n s run o x)
+read_one n s run o c cs =
+    told_bind (token_at (c ∷ cs)) (λ x. cond (sign_may o x.0) (sign_step s run x.0 >>= λ y. read_from n y.0 y.1 (sign_next o x.0) x.1) no) ∙ each (token_at (c ∷ cs))
+  where
+    each : (found : Found Token) → (found >>= λ x. cond (may o x.0) (sign_step s run (told x.0) >>= λ y. read_from n y.0 y.1 (next o x.0) x.1) no) ≡ (found >>= λ x. onward n s run o x)
+    each None = refl
+    each (Some x) = ap (λ m. cond (may o x.0) (m >>= λ y. read_from n y.0 y.1 (next o x.0) x.1) no) (step_is s run x.0)
 
 -- ---- what is read is spelled so
 
-record ReadAs (s : State) (bytes : List ℕ) (t : Tree Kind) : Type 0 where
+record ReadAs (s : State) (run : List ℕ) (o : Order) (cs : List ℕ) (t : Tree Kind) : Type 0 where
   tokens : List Token
-  each : AreTokens tokens
-  spelled_so : bytes ≡ flat_map spelled tokens
-  bare : IsBareOutside (depth_of s) tokens
-  builds : build s (brackets [] tokens) ≡ Some t
+  each : list_all is_token tokens ≡ true
+  spelled_so : cs ≡ flat_map spelled tokens
+  accepted : accept s run o tokens ≡ Some t
 
-ends_at : (n : ℕ) (s : State) → read_from n s [] ≡ finished s
-ends_at zero s = refl
-ends_at (suc n) s = refl
+ends_at : (n : ℕ) (s : State) (run : List ℕ) (o : Order) → read_from n s run o [] ≡ build s (text_brackets run)
+ends_at zero s run o = ap (λ m. m >>= finished) (text_is s run)
+ends_at (suc n) s run o = ap (λ m. m >>= finished) (text_is s run)
 
--- what brackets make is what the first of them and then the others make
-build_append : (s s' : State) (ps qs : List Bracket) → place_all s ps ≡ Some s' → build s (ps ++ qs) ≡ build s' qs
-build_append s s' ps qs e = ap (λ o. o >>= finished) (place_all_append s ps qs ∙ ap (λ o. o >>= λ x. place_all x qs) e)
-
-read_mark : (s s' : State) (tag : Tag) (name bytes rest : List ℕ) (t : Tree Kind) → is_name name ≡ true → bytes ≡ spelled_tag tag name ++ rest → place_all s (tag_brackets tag name) ≡ Some s' → ReadAs s' rest t → ReadAs s bytes t
-read_mark s s' tag name bytes rest t is parts moved more = record {
-  tokens = Tagged tag name ∷ more.tokens;
-  each = (is, more.each);
-  spelled_so = parts ∙ ap (λ (r : List ℕ). spelled_tag tag name ++ r) more.spelled_so ∙ ap (λ (n : List ℕ). spelled_tag tag n ++ flat_map spelled more.tokens) (sym (name_same name is));
-  bare = tag_bare tag name (depth_of s) more.tokens (subst (λ (d : ℕ). IsBareOutside d more.tokens) (subst (λ o. IsDeep o (depth_after tag (depth_of s))) moved (tag_leads s tag name)) more.bare);
-  builds = ap (λ (n : List ℕ). build s (tag_brackets tag n ++ brackets [] more.tokens)) (name_same name is) ∙ build_append s s' (tag_brackets tag name) (brackets [] more.tokens) moved ∙ more.builds;
-}
-
-read_run : (s s' : State) (text bytes rest : List ℕ) (t : Tree Kind) → list_all is_text_char text ≡ true → IsLongest (Run text) rest → bytes ≡ text ++ rest → text_step s text ≡ Some s' → ReadAs s' rest t → ReadAs s bytes t
-read_run Before s' text bytes rest t is longest parts moved more = absurd cc
-read_run (After u) s' text bytes rest t is longest parts moved more = absurd cc
-read_run (Inside f fs) s' text bytes rest t is longest parts moved more =
-    let ts = more.tokens in
-    record {
-      tokens = map Char text ++ ts;
-      each = run_tokens text ts is more.each;
-      spelled_so = parts ∙ ap (λ (r : List ℕ). text ++ r) more.spelled_so ∙ sym (run_spelled text ts is);
-      bare = run_bare (length fs) text ts (subst (λ (d : ℕ). IsBareOutside d ts) (deep f fs text s' moved) more.bare);
-      builds = ap (λ ps. build (Inside f fs) ps) (run_brackets text [] ts ∙ parted text ts (no_char_here ts rest more.each more.spelled_so longest))
-          ∙ build_append (Inside f fs) s' (text_brackets text) (brackets [] ts) (text_lands f fs text is ∙ moved) ∙ more.builds;
-    }
-  where
-    deep : (f : Frame) (fs : List Frame) (text : List ℕ) (s' : State) → text_step (Inside f fs) text ≡ Some s' → depth_of s' ≡ suc (length fs)
-    deep f fs text s' moved = subst (λ o. IsDeep o (suc (length fs))) moved refl
-
-read_span : (s s' : State) (span : Span) (bytes rest : List ℕ) (t : Tree Kind) → Takes bytes (span, rest) → span_step s span ≡ Some s' → ReadAs s' rest t → ReadAs s bytes t
-read_span s s' (Mark tag name) bytes rest t takes moved more = read_mark s s' tag name bytes rest t takes.is takes.parts moved more
-read_span s s' (Run text) bytes rest t takes moved more = read_run s s' text bytes rest t takes.is takes.longest takes.parts moved more
-
-read_sound : (n : ℕ) (s : State) (bytes : List ℕ) (t : Tree Kind) → read_from n s bytes ≡ Some t → ReadAs s bytes t
-read_sound n s [] t e = record { tokens = []; each = tt; spelled_so = refl; bare = tt; builds = sym (ends_at n s) ∙ e }
-read_sound zero s (b ∷ bytes) t e = absurd cc
-read_sound (suc n) s (b ∷ bytes) t e =
-    let found = bind_some (span_at (b ∷ bytes)) (λ x. span_step s x.0 >>= λ y. read_from n y x.1) t e in
+read_sound : (n : ℕ) (s : State) (run : List ℕ) (o : Order) (cs : List ℕ) (t : Tree Kind) → read_from n s run o cs ≡ Some t → ReadAs s run o cs t
+read_sound n s run o [] t e = record { tokens = []; each = refl; spelled_so = refl; accepted = sym (ends_at n s run o) ∙ e }
+read_sound zero s run o (c ∷ cs) t e = absurd cc
+read_sound (suc n) s run o (c ∷ cs) t e =
+    let found = bind_some (token_at (c ∷ cs)) (λ x. onward n s run o x) t (sym (read_one n s run o c cs) ∙ e) in
     let x = found.0 in
-    let moved = bind_some (span_step s x.0) (λ y. read_from n y x.1) t found.2 in
-    read_span s moved.0 x.0 (b ∷ bytes) x.1 t (span_takes (b ∷ bytes) x found.1) moved.1 (read_sound n moved.0 x.1 t moved.2)
-
-pub read_spells : (bytes : List ℕ) (t : Tree Kind) → read_all bytes ≡ Some t → SpellsElement bytes t
-unfolding read_all
-read_spells bytes t e =
-    let r = read_sound (length bytes) Before bytes t e in (
-      r.tokens,
-      record {
-        each = r.each;
-        spelled_so = r.spelled_so;
-        bare = r.bare;
-        tree_is = build_sound (brackets [] r.tokens) t r.builds;
-      },
-    )
+    let allowed = taken (may o x.0) (step s run x.0 >>= λ y. read_from n y.0 y.1 (next o x.0) x.1) t found.2 in
+    let moved = bind_some (step s run x.0) (λ y. read_from n y.0 y.1 (next o x.0) x.1) t allowed.1 in
+    let takes = token_takes (c ∷ cs) x found.1 in
+    let more = read_sound n moved.0.0 moved.0.1 (next o x.0) x.1 t moved.2 in
+    record {
+      tokens = x.0 ∷ more.tokens;
+      each = both_true _ _ takes.is more.each;
+      spelled_so = takes.parts ∙ ap (λ r. spelled x.0 ++ r) more.spelled_so;
+      accepted = ap (λ b. cond b (step s run x.0 >>= λ y. accept y.0 y.1 (next o x.0) more.tokens) no) allowed.0 ∙ ap (λ q. q >>= λ y. accept y.0 y.1 (next o x.0) more.tokens) moved.1 ∙ more.accepted;
+    }
 
 -- ---- what is spelled so is read
 
--- one span, and then the others
-read_step : (n : ℕ) (s : State) (bytes : List ℕ) (b : ℕ) (bs : List ℕ) (span : Span) (rest : List ℕ) → bytes ≡ b ∷ bs → span_at bytes ≡ Some (span, rest)
-    → read_from (suc n) s bytes ≡ (span_step s span >>= λ y. read_from n y rest)
-read_step n s bytes b bs span rest e found =
-    ap (λ (r : List ℕ). read_from (suc n) s r) e ∙ ap (λ o. o >>= λ x. span_step s x.0 >>= λ y. read_from n y x.1) (ap span_at (sym e) ∙ found)
+-- the first character of a token
+pub first : (t : Token) → (b : ℕ) × (cs : List ℕ) × (spelled t ≡ b ∷ cs)
+first (Data (Literal c)) = (c, [], refl)
+first (Data (Reference body)) = (38, _, refl)
+first (Section cs) = (60, _, refl)
+first (Comment cs) = (60, _, refl)
+first (Instruction name cs) = (60, _, refl)
+first (Start empty name attributes gap) = (60, _, refl)
+first (Close name gap) = (60, _, refl)
+first (Doctype gap name ext after) = (60, _, refl)
 
--- the first byte of a tag
-first : (tag : Tag) (name rest : List ℕ) → (bs : List ℕ) × (spelled_tag tag name ++ rest ≡ 60 ∷ bs)
-first Open name rest = ((name ++ 62 ∷ []) ++ rest, refl)
-first Empty name rest = ((name ++ 47 ∷ 62 ∷ []) ++ rest, refl)
-first Close name rest = (47 ∷ ((name ++ 62 ∷ []) ++ rest), refl)
+then_read : (b : Bool) (q : Option (State × List ℕ)) (n : ℕ) (o : Order) (rest : List ℕ) (ts : List Token) → ((s : State) (run : List ℕ) → read_from n s run o rest ≡ accept s run o ts)
+    → cond b (q >>= λ y. read_from n y.0 y.1 o rest) no ≡ cond b (q >>= λ y. accept y.0 y.1 o ts) no
+then_read false q n o rest ts more = refl
+then_read true None n o rest ts more = refl
+then_read true (Some y) n o rest ts more = more y.0 y.1
 
-longer : (tag : Tag) (name rest : List ℕ) → suc (length rest) ≤ length (spelled_tag tag name ++ rest)
-longer Open name rest = omega (arith, length-append (name ++ 62 ∷ []) rest)
-longer Empty name rest = omega (arith, length-append (name ++ 47 ∷ 62 ∷ []) rest)
-longer Close name rest = omega (arith, length-append (name ++ 62 ∷ []) rest)
+read_step : (n : ℕ) (s : State) (run : List ℕ) (o : Order) (all : List ℕ) (b : ℕ) (bs : List ℕ) (t : Token) (rest : List ℕ) → all ≡ b ∷ bs → token_at all ≡ Some (t, rest)
+    → read_from (suc n) s run o all ≡ onward n s run o (t, rest)
+read_step n s run o all b bs t rest e found =
+    ap (λ (r : List ℕ). read_from (suc n) s run o r) e
+    ∙ read_one n s run o b bs
+    ∙ ap (λ (q : Found Token). q >>= λ x. onward n s run o x) (ap token_at (sym e) ∙ found)
 
--- where a span led, the others lead on
-then_read : (o : Option State) (n : ℕ) (rest : List ℕ) (ps : List Bracket) → ((s : State) → o ≡ Some s → read_from n s rest ≡ build s ps)
-    → (o >>= λ y. read_from n y rest) ≡ ((o >>= λ x. place_all x ps) >>= finished)
-then_read None n rest ps more = refl
-then_read (Some s) n rest ps more = more s refl
-
-read_again : (n : ℕ) (ts : List Token) (s : State) → AreTokens ts → IsBareOutside (depth_of s) ts → length (flat_map spelled ts) ≤ n → read_from n s (flat_map spelled ts) ≡ build s (brackets [] ts)
-read_again n [] s each bare le = ends_at n s
-read_again zero (Char c ∷ ts) s each bare le = absurd (omega (arith, ap length (spelled_leading (Char c ∷ ts) each), le))
-read_again zero (Tagged tag name ∷ ts) s each bare le = absurd (omega (arith, longer tag (encode_utf8_all name) (flat_map spelled ts), le))
-read_again (suc n) (Char c ∷ ts) Before each bare le = absurd (bare.0 refl)
-read_again (suc n) (Char c ∷ ts) (After t) each bare le = absurd (bare.0 refl)
-read_again (suc n) (Char c ∷ ts) (Inside f fs) each bare le =
-    let text = c ∷ leading ts in
-    let rest = flat_map spelled (behind ts) in
-    let parts = spelled_leading (Char c ∷ ts) each in
-    let is = leading_text (Char c ∷ ts) each in
-    let led = text_lands f fs text is in
-    let shorter : length rest ≤ n = omega (arith, ap length parts, length-append (leading ts) rest, le) in
-    ap (λ (r : List ℕ). read_from (suc n) (Inside f fs) r) parts
-    ∙ read_step n (Inside f fs) (text ++ rest) c (leading ts ++ rest) (Run text) rest refl (run_again c (leading ts) rest is (stops_behind (behind ts) (no_char_behind ts)))
-    ∙ read_again n (behind ts) _ (behind_tokens (Char c ∷ ts) each) (bare_behind (suc (length fs)) (Char c ∷ ts) bare) shorter
-    ∙ sym (build_append (Inside f fs) _ (text_brackets text) (brackets [] (behind ts)) led)
-    ∙ ap (λ ps. build (Inside f fs) ps) (sym (brackets_leading (Char c ∷ ts) [] ∙ parted text (behind ts) (no_char_behind ts)))
-read_again (suc n) (Tagged tag name ∷ ts) s each bare le =
+read_again : (n : ℕ) (ts : List Token) (s : State) (run : List ℕ) (o : Order) → list_all is_token ts ≡ true → length (flat_map spelled ts) ≤ n → read_from n s run o (flat_map spelled ts) ≡ accept s run o ts
+read_again n [] s run o each le = ends_at n s run o
+read_again zero (t ∷ ts) s run o each le = let f = first t in absurd (omega (arith, length-append (spelled t) (flat_map spelled ts), ap length f.2, le))
+read_again (suc n) (t ∷ ts) s run o each le =
+    let f = first t in
+    let w = both (is_token t) (list_all is_token ts) each in
     let rest = flat_map spelled ts in
-    let same = name_same name each.0 in
-    let f = first tag name rest in
-    let shorter : length rest ≤ n = omega (arith, longer tag (encode_utf8_all name) rest, le) in
-    ap (λ (m : List ℕ). read_from (suc n) s (spelled_tag tag m ++ rest)) same
-    ∙ read_step n s (spelled_tag tag name ++ rest) 60 f.0 (Mark tag name) rest f.1 (mark_again tag name rest each.0)
-    ∙ then_read (place_all s (tag_brackets tag name)) n rest (brackets [] ts)
-    (λ s' moved. read_again n ts s' each.1 (subst (λ (d : ℕ). IsBareOutside d ts) (sym (subst (λ o. IsDeep o (depth_after tag (depth_of s))) moved (tag_leads s tag name))) (bare_tag tag name (depth_of s) ts bare)) shorter)
-    ∙ ap (λ o. o >>= finished) (sym (place_all_append s (tag_brackets tag name) (brackets [] ts)))
-    ∙ ap (λ (m : List ℕ). build s (tag_brackets tag m ++ brackets [] ts)) (sym same)
+    let shorter : length rest ≤ n = omega (arith, length-append (spelled t) (flat_map spelled ts), ap length f.2, le) in
+    read_step n s run o (spelled t ++ rest) f.0 (f.1 ++ rest) t rest (ap (λ (r : List ℕ). r ++ rest) f.2) (token_again t rest w.0)
+    ∙ then_read (may o t) (step s run t) n (next o t) rest ts (λ x r. read_again n ts x r (next o t) w.1 shorter)
 
-pub spelled_read : (bytes : List ℕ) (t : Tree Kind) → SpellsElement bytes t → read_all bytes ≡ Some t
-unfolding read_all
-spelled_read bytes t h =
-    let s = h.1 in
-    ap (λ (b : List ℕ). read_from (length b) Before b) s.spelled_so
-    ∙ read_again (length (flat_map spelled h.0)) h.0 Before s.each s.bare (omega arith)
-    ∙ ap (λ ps. build Before ps) s.tree_is
+-- ---- the tokens of one form
+
+-- tokens in their order that say where the nodes of the tree begin and end
+pub record Makes (o : Order) (cs : List ℕ) (t : Tree Kind) (tokens : List Token) : Type 0 where
+  pub each : list_all is_token tokens ≡ true
+  pub spelled_so : cs ≡ flat_map spelled tokens
+  pub turn : in_turn o tokens ≡ true
+  pub tree_is : brackets [] tokens ≡ bracketing (one t)
+
+pub read_makes : (o : Order) (cs : List ℕ) (t : Tree Kind) → read_as o cs ≡ Some t → (tokens : List Token) × Makes o cs t tokens
+unfolding read_as
+read_makes o cs t e =
+    let r = read_sound (length cs) Before [] o cs t e in
+    let a = taken (in_turn o r.tokens) (build Before (brackets [] r.tokens)) t (sym (accept_is r.tokens Before [] o) ∙ r.accepted) in
+    (r.tokens, record { each = r.each; spelled_so = r.spelled_so; turn = a.0; tree_is = build_sound (brackets [] r.tokens) t a.1 })
+
+pub makes_read : (o : Order) (cs : List ℕ) (t : Tree Kind) (tokens : List Token) → Makes o cs t tokens → read_as o cs ≡ Some t
+unfolding read_as
+makes_read o cs t tokens m =
+    ap (λ (r : List ℕ). read_from (length r) Before [] o r) m.spelled_so
+    ∙ read_again (length (flat_map spelled tokens)) tokens Before [] o m.each (omega arith)
+    ∙ accept_is tokens Before [] o
+    ∙ ap (λ b. cond b (build Before (brackets [] tokens)) no) m.turn
+    ∙ ap (λ ps. build Before ps) m.tree_is
     ∙ build_full t
 
--- bytes spell at most one tree
-pub one_tree : (bytes : List ℕ) (t u : Tree Kind) → SpellsElement bytes t → SpellsElement bytes u → t ≡ u
-one_tree bytes t u a b = some_is t u (sym (spelled_read bytes t a) ∙ spelled_read bytes u b)
+-- ---- the two forms
+
+-- characters are spelled by no others
+pub same_tokens : (ts us : List Token) → list_all is_token ts ≡ true → list_all is_token us ≡ true → flat_map spelled ts ≡ flat_map spelled us → ts ≡ us
+same_tokens [] [] a b e = refl
+same_tokens [] (u ∷ us) a b e = let f = first u in absurd (omega (arith, ap length e, length-append (spelled u) (flat_map spelled us), ap length f.2))
+same_tokens (t ∷ ts) [] a b e = let f = first t in absurd (omega (arith, ap length e, length-append (spelled t) (flat_map spelled ts), ap length f.2))
+same_tokens (t ∷ ts) (u ∷ us) a b e =
+    let v = both (is_token t) (list_all is_token ts) a in
+    let w = both (is_token u) (list_all is_token us) b in
+    let p : (t, flat_map spelled ts) ≡ (u, flat_map spelled us) = some_is _ _ (sym (token_again t (flat_map spelled ts) v.0) ∙ ap token_at e ∙ token_again u (flat_map spelled us) w.0) in
+    (λ i. (p i).0 ∷ same_tokens ts us v.1 w.1 (ap (λ (x : Token × List ℕ). x.1) p) i)
+
+pub either_true : (a b : Bool) → (a || b) ≡ true → (a ≡ true) ⊎ (b ≡ true)
+either_true true b e = inl refl
+either_true false b e = inr e
+
+pub either_left : (a b : Bool) → a ≡ true → (a || b) ≡ true
+either_left true b e = refl
+either_left false b e = absurd cc
+
+pub either_right : (a b : Bool) → b ≡ true → (a || b) ≡ true
+either_right true b e = refl
+either_right false b e = e
+
+abbrev AreFormed : Option Declaration → List Token → Type 0
+AreFormed first tokens = (unbroken 0 tokens ≡ true) × (has_form first tokens ≡ true)
+
+document_form : (tokens : List Token) → in_turn document tokens ≡ true → AreFormed None tokens
+document_form tokens h =
+    let w = both (unbroken 0 tokens) (outside true 0 tokens) (sym (turns tokens 0 true 0) ∙ h) in
+    (w.0, either_left (outside true 0 tokens) (list_all is_textual tokens) w.1)
+
+declared_form : (d : Declaration) (tokens : List Token) → is_declaration d ≡ true → in_turn document tokens ≡ true → AreFormed (Some d) tokens
+declared_form d tokens is h =
+    let w = both (unbroken 0 tokens) (outside true 0 tokens) (sym (turns tokens 0 true 0) ∙ h) in
+    (w.0, either_left (is_document (Some d) tokens) false (both_true _ _ is w.1))
+
+text_form : (tokens : List Token) → in_turn text tokens ≡ true → AreFormed None tokens
+text_form tokens h =
+    let w = both (unbroken 0 tokens) (list_all is_textual tokens) (sym (text_turns tokens 0) ∙ h) in
+    (w.0, either_right (outside true 0 tokens) (list_all is_textual tokens) w.1)
+
+makes_spelled : (first : Option Declaration) (o : Order) (cs rest : List ℕ) (t : Tree Kind) (tokens : List Token) → Makes o rest t tokens → cs ≡ spelled_first first ++ rest → AreFormed first tokens → SpelledBy cs t first tokens
+makes_spelled first o cs rest t tokens m parts w =
+    record { each = m.each; spelled_so = parts ∙ ap (λ (r : List ℕ). spelled_first first ++ r) m.spelled_so; whole = w.0; form = w.1; tree_is = m.tree_is }
+
+abbrev IsSpelled : List ℕ → Tree Kind → Type 0
+IsSpelled cs t = (first : Option Declaration) × (tokens : List Token) × SpelledBy cs t first tokens
+
+plain_spelled : (cs : List ℕ) (t : Tree Kind) → read_plain cs ≡ Some t → IsSpelled cs t
+plain_spelled cs t e = choose (read_as document cs) refl e
+  where
+    choose : (d : Option (Tree Kind)) → read_as document cs ≡ d → or_else d (read_as text cs) ≡ Some t → IsSpelled cs t
+    choose None is e = let m = read_makes text cs t e in (None, m.0, makes_spelled None text cs cs t m.0 m.1 refl (text_form m.0 m.1.turn))
+    choose (Some u) is e = let m = read_makes document cs t (is ∙ e) in (None, m.0, makes_spelled None document cs cs t m.0 m.1 refl (document_form m.0 m.1.turn))
+
+pub read_spelled : (cs : List ℕ) (t : Tree Kind) → read_all cs ≡ Some t → IsSpelled cs t
+read_spelled cs t e = choose (after_declaration cs) refl e
+  where
+    choose : (r : Option (List ℕ)) → after_declaration cs ≡ r → read_behind r cs ≡ Some t → IsSpelled cs t
+    choose None is e = plain_spelled cs t e
+    choose (Some rest) is e =
+        let d = declaration_takes cs rest is in
+        let m = read_makes document rest t e in
+        (Some d.0, m.0, makes_spelled (Some d.0) document cs rest t m.0 m.1 d.2 (declared_form d.0 m.0 d.1 m.1.turn))
+
+-- ---- what is spelled is read
+
+abbrev behind : Option (List ℕ) → List ℕ → List ℕ
+behind None cs = cs
+behind (Some rest) cs = rest
+
+-- the tokens spell what stands behind the declaration
+pub rest_spelled : (cs : List ℕ) (t : Tree Kind) (first : Option Declaration) (tokens : List Token) → SpelledBy cs t first tokens → behind (after_declaration cs) cs ≡ flat_map spelled tokens
+rest_spelled cs t None tokens s = ap (λ o. behind o cs) (ap after_declaration s.spelled_so ∙ undeclared tokens s.each) ∙ s.spelled_so
+rest_spelled cs t (Some d) tokens s =
+    let f = elim (either_true (is_document (Some d) tokens) false s.form) as (λ x. is_declaration d ≡ true) [ inl h ↦ (both (is_declaration d) (outside true 0 tokens) h).0 | inr h ↦ absurd cc ] in
+    ap (λ o. behind o cs) (ap after_declaration s.spelled_so ∙ declaration_again d (flat_map spelled tokens) f)
+
+-- characters spell at most one tree
+pub one_spelled : (cs : List ℕ) (t u : Tree Kind) (first other : Option Declaration) (ts us : List Token) → SpelledBy cs t first ts → SpelledBy cs u other us → t ≡ u
+one_spelled cs t u first other ts us a b =
+    let equal = same_tokens ts us a.each b.each (sym (rest_spelled cs t first ts a) ∙ rest_spelled cs u other us b) in
+    some_is t u (sym (build_full t) ∙ ap (λ ps. build Before ps) (sym a.tree_is ∙ ap (λ (x : List Token). brackets [] x) equal ∙ b.tree_is) ∙ build_full u)
+
+plain_read : (cs : List ℕ) (t : Tree Kind) (tokens : List Token) → SpelledBy cs t None tokens → read_plain cs ≡ Some t
+plain_read cs t tokens s =
+    elim (either_true (outside true 0 tokens) (list_all is_textual tokens) s.form) [
+      | inl h ↦ ap (λ d. or_else d (read_as text cs)) (makes_read document cs t tokens (record { each = s.each; spelled_so = s.spelled_so; turn = turns tokens 0 true 0 ∙ both_true _ _ s.whole h; tree_is = s.tree_is }))
+      | inr h ↦ choose (read_as document cs) refl (makes_read text cs t tokens (record { each = s.each; spelled_so = s.spelled_so; turn = text_turns tokens 0 ∙ both_true _ _ s.whole h; tree_is = s.tree_is }))
+    ]
+  where
+    choose : (d : Option (Tree Kind)) → read_as document cs ≡ d → read_as text cs ≡ Some t → or_else d (read_as text cs) ≡ Some t
+    choose None is e = e
+    choose (Some u) is e = let m = read_makes document cs u is in ap some (one_spelled cs u t None None m.0 tokens (makes_spelled None document cs cs u m.0 m.1 refl (document_form m.0 m.1.turn)) s)
+
+pub spelled_read : (cs : List ℕ) (t : Tree Kind) (first : Option Declaration) (tokens : List Token) → SpelledBy cs t first tokens → read_all cs ≡ Some t
+spelled_read cs t None tokens s = ap (λ o. read_behind o cs) (ap after_declaration s.spelled_so ∙ undeclared tokens s.each) ∙ plain_read cs t tokens s
+spelled_read cs t (Some d) tokens s =
+    elim (either_true (is_document (Some d) tokens) false s.form) [
+      | inl h ↦
+          let w = both (is_declaration d) (outside true 0 tokens) h in
+          ap (λ o. read_behind o cs) (ap after_declaration s.spelled_so ∙ declaration_again d (flat_map spelled tokens) w.0)
+          ∙ makes_read document (flat_map spelled tokens) t tokens (record { each = s.each; spelled_so = refl; turn = turns tokens 0 true 0 ∙ both_true _ _ s.whole w.1; tree_is = s.tree_is })
+      | inr h ↦ absurd cc
+    ]
+
+pub one_tree : (bytes : List ℕ) (t u : Tree Kind) → Spells bytes t → Spells bytes u → t ≡ u
+one_tree bytes t u a b = one_spelled (characters bytes) t u a.0 b.0 a.1 b.1 a.2.by b.2.by

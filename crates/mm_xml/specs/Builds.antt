@@ -1,16 +1,22 @@
--- What the stack of open elements, and what is skimmed, stand for.
-use Rattle.std.specs.Prelude.{ℕ, ◌≡◌, ◌<◌, ◌≤◌, Bool, IsTrue, List, [], ◌∷◌, Option, Some, None, Result, Ok, Err, map, reverse}
+-- What the stack of open elements, and the outline, stand for.
+use Rattle.std.specs.Prelude.{ℕ, ◌≡◌, ◌<◌, ◌≤◌, Bool, true, false, IsTrue, List, [], ◌∷◌, Option, Some, None, Result, Ok, Err, map, reverse}
 use Rattle.mm_tree.specs.declared.Kind.{Kind}
 use Rattle.mm_tree.specs.declared.Plain.{Plain}
+use Rattle.std.specs.Borrow.{Bor}
+use Rattle.std.specs.Str.{chars}
 use Rattle.mm_tree.specs.Trees.{Tree, tree_of}
-use Rattle.mm_xml.specs.Reading.{Frame, State, Before, Inside, After, depth_of}
-use Rattle.mm_xml.specs.Skimming.{Skimmed, skimmed}
-use Rattle.mm_xml.specs.Answers.{most_levels, IsShallow, IsTooDeep}
+use Rattle.mm_tree.specs.Validity.{are_chars}
+use Rattle.mm_xml.specs.Grammar.{without_mark}
 use Rattle.mm_xml.specs.declared.stack.Opened.{Opened}
 use Rattle.mm_xml.specs.declared.stack.Stack.{Stack}
 use Rattle.mm_xml.specs.declared.outline.Outline.{Outline}
 use Rattle.mm_xml.specs.declared.error.XmlError.{XmlError}
 use Rattle.mm_xml.specs.declared.error.XmlError.TheVariants as error
+use Rattle.mm_xml.specs.declared.order.Order.{Order}
+use Rattle.mm_xml.specs.Machine.{Frame, State, Before, Inside, After, depth_of, deepest_of}
+use Rattle.mm_xml.specs.Machine as machine
+use Rattle.mm_xml.specs.Outlines.{Outlined, outlined}
+use Rattle.mm_xml.specs.Answers.{most_levels, IsShallow, IsTooDeep}
 
 abbrev pub frame_of : Opened → Frame
 frame_of f = record { kind = f.kind; before = map tree_of f.children.items }
@@ -27,26 +33,88 @@ state_at (f ∷ fs) whole = Inside f fs
 abbrev pub state_of : Stack → State
 state_of s = state_at (frames_of s.frames.items) s.whole
 
-abbrev pub outline_of : Outline → Skimmed
-outline_of o = skimmed (map (λ name. name.now) (reverse o.names.items)) o.deepest
+abbrev pub outline_of : Outline → Outlined
+outline_of o = outlined (reverse o.names.items) o.begun
 
--- there is no such move, or memory ran out
-abbrev pub Refuses : {X : Type 0} → XmlError → Option X → Type 0
-Refuses error.NotXml moved = moved ≡ None
-Refuses error.TooDeep moved = ⊥
-Refuses error.Memory moved = Unit {0}
+abbrev pub order_of : Order → machine.Order
+order_of o = record { squares = o.squares; before = o.before; depth = o.depth; textual = o.textual }
 
--- the state is the one to move to, where there is one, unless memory ran out
-abbrev pub Moves : {S U : Type 0} → Result U XmlError → S → Option S → Type 0
-Moves (Ok u) new moved = moved ≡ Some new
-Moves (Err e) new moved = Refuses e moved
-
--- The same for a step that may add a node: there is room for it, or it would be a level too many.
+-- A step that may add a node: there is room for it, or it would be a level too many.
 abbrev pub Steps : {U : Type 0} → Result U XmlError → Bool → State → State → Option State → Type 0
 Steps (Ok u) adds old new moved = (moved ≡ Some new) × (IsTrue adds → depth_of old < most_levels)
 Steps (Err error.NotXml) adds old new moved = moved ≡ None
 Steps (Err error.TooDeep) adds old new moved = IsTrue adds × (most_levels ≤ depth_of old)
 Steps (Err error.Memory) adds old new moved = Unit {0}
+
+-- Several steps that lead nowhere, or too deep if anywhere, or memory ran out.
+abbrev pub PlaceFails : XmlError → Option State → Type 0
+PlaceFails error.NotXml moved = moved ≡ None
+PlaceFails error.TooDeep moved = (s : State) → moved ≡ Some s → most_levels < deepest_of s
+PlaceFails error.Memory moved = Unit {0}
+
+-- Several steps that lead to a new state, and keep within the levels.
+abbrev pub IsPlaced : State → State → Option State → Type 0
+IsPlaced old new moved = (moved ≡ Some new) × (deepest_of old ≤ most_levels → deepest_of new ≤ most_levels)
+
+abbrev pub Places : {U : Type 0} → Result U XmlError → State → State → Option State → Type 0
+Places (Ok u) old new moved = IsPlaced old new moved
+Places (Err e) old new moved = PlaceFails e moved
+
+-- a step that adds no node
+abbrev pub MovesTo : {S U : Type 0} → Result U XmlError → S → Option S → Type 0
+MovesTo (Ok u) new moved = moved ≡ Some new
+MovesTo (Err error.NotXml) new moved = moved ≡ None
+MovesTo (Err error.TooDeep) new moved = ⊥
+MovesTo (Err error.Memory) new moved = Unit {0}
+
+abbrev pub Moves : {U : Type 0} → Result U XmlError → Outlined → Option Outlined → Type 0
+Moves result new moved = MovesTo result new moved
+
+-- a step of the outline, which also tells whether the characters since the last tag are blank
+abbrev pub Blanks : Result Bool XmlError → Outlined → Option (Outlined × Bool) → Type 0
+Blanks (Ok blank) new moved = moved ≡ Some (new, blank)
+Blanks (Err error.NotXml) new moved = moved ≡ None
+Blanks (Err error.TooDeep) new moved = ⊥
+Blanks (Err error.Memory) new moved = Unit {0}
+
+-- whether there is a tree
+abbrev pub Outlines : {U : Type 0} → Result U XmlError → Bool → Type 0
+Outlines (Ok u) there = there ≡ true
+Outlines (Err error.NotXml) there = there ≡ false
+Outlines (Err error.TooDeep) there = ⊥
+Outlines (Err error.Memory) there = Unit {0}
+
+-- Several steps, to a state and the characters since the last tag.
+abbrev pub AdvanceFails : XmlError → Option (State × List ℕ) → Type 0
+AdvanceFails error.NotXml moved = moved ≡ None
+AdvanceFails error.TooDeep moved = (y : State × List ℕ) → moved ≡ Some y → most_levels < deepest_of y.0
+AdvanceFails error.Memory moved = Unit {0}
+
+abbrev pub Advances : {U : Type 0} → Result U XmlError → State → State → List ℕ → Option (State × List ℕ) → Type 0
+Advances (Ok u) old new run moved = (moved ≡ Some (new, run)) × (deepest_of old ≤ most_levels → deepest_of new ≤ most_levels)
+Advances (Err e) old new run moved = AdvanceFails e moved
+
+-- the tree, where all is closed
+abbrev pub FinishFails : XmlError → Option (Tree Kind) → Type 0
+FinishFails error.NotXml tree = tree ≡ None
+FinishFails error.TooDeep tree = (t : Tree Kind) → tree ≡ Some t → IsTooDeep t
+FinishFails error.Memory tree = Unit {0}
+
+abbrev pub Finishes : Result Plain XmlError → State → Option (Tree Kind) → Type 0
+Finishes (Ok p) old tree = (tree ≡ Some (tree_of p)) × (deepest_of old ≤ most_levels → IsShallow (tree_of p))
+Finishes (Err e) old tree = FinishFails e tree
+
+-- what is read, with a tree that is too deep told from none
+abbrev pub Reads : Result Plain XmlError → Option (Tree Kind) → Type 0
+Reads (Ok p) read = (read ≡ Some (tree_of p)) × IsShallow (tree_of p)
+Reads (Err error.NotXml) read = read ≡ None
+Reads (Err error.TooDeep) read = (t : Tree Kind) × (read ≡ Some t) × IsTooDeep t
+Reads (Err error.Memory) read = Unit {0}
+
+-- the text behind a byte order mark, where the bytes are UTF-8 of Chars
+abbrev pub Decodes : Option (Bor (List ℕ)) → List ℕ → Type 0
+Decodes (Some text) bytes = (are_chars bytes ≡ true) × (chars text.now ≡ without_mark (chars bytes))
+Decodes None bytes = are_chars bytes ≡ false
 
 abbrev pub Ends : Option Plain → Option (Tree Kind) → Type 0
 Ends None t = t ≡ None
@@ -55,11 +123,4 @@ Ends (Some p) t = t ≡ Some (tree_of p)
 -- the tree that was read, if it isn't too deep
 abbrev pub Gives : Result Plain XmlError → Option (Tree Kind) → Type 0
 Gives (Ok p) read = (read ≡ Some (tree_of p)) × IsShallow (tree_of p)
-Gives (Err error.NotXml) read = read ≡ None
-Gives (Err error.TooDeep) read = (t : Tree Kind) → read ≡ Some t → IsTooDeep t
-Gives (Err error.Memory) read = Unit {0}
-
--- the number of levels
-abbrev pub Counts : Result ℕ XmlError → Option ℕ → Type 0
-Counts (Ok n) levels = levels ≡ Some n
-Counts (Err e) levels = Refuses e levels
+Gives (Err e) read = FinishFails e read

@@ -1,140 +1,126 @@
--- Which bytes spell which tree, after the productions of XML 1.0, fifth edition.
---
--- Tokens are written out in characters and spelled in UTF-8. A token says where nodes begin and end, and so does a tree.
--- Bytes spell a tree where some tokens spell the bytes and say of its nodes what the tree says.
-use Rattle.std.specs.Prelude.{ℕ, ◌≡◌, ◌≢◌, ◌⊎◌, ◌+◌, ◌-◌, List, [], ◌∷◌, ◌++◌, length, Bool, false, ◌&&◌, ◌||◌, not, ◌==◌, nat_le, IsTrue, if◌then◌else◌, encode_utf8}
-use Rattle.std.specs.List.{flat_map, AllByRecursion, list_all}
-use Rattle.std.specs.Str.{encode_utf8_all}
+-- What tokens mean, and which bytes spell which tree.
+use Rattle.std.specs.Prelude.{ℕ, zero, suc, ◌≡◌, ◌+◌, ◌-◌, List, [], ◌∷◌, ◌++◌, Bool, true, false, ◌&&◌, ◌||◌, not, ◌==◌, nat_le, IsTrue, Option, Some, None, if◌then◌else◌, map}
+use Rattle.std.specs.List.{flat_map, list_all}
+use Rattle.std.specs.Str.{encode_utf8_all, chars}
 use Rattle.mm_tree.specs.declared.Kind.{Kind}
 use Rattle.mm_tree.specs.declared.Kind.TheVariants.{Element, Words}
-use Rattle.mm_tree.specs.Characters.{between, is_space}
 use Rattle.mm_tree.specs.Trees.{Trees, none, node, Tree, one}
-use Rattle.mm_xml.specs.declared.token.Tag.{Tag}
-use Rattle.mm_xml.specs.declared.token.Tag.TheVariants.{Open, Empty, Close}
+use Rattle.mm_tree.specs.Validity.{are_chars}
+use Rattle.mm_tree.specs.Characters.{is_space}
+use Rattle.mm_xml.specs.Syntax.{Literal, Reference, Written, meant, attribute_of, Token, Data, Section, Comment, Instruction, Start, Close, Doctype, is_token, spelled, Declaration, is_declaration, spelled_declaration}
 
--- ---- characters
-
--- what a name begins with (NameStartChar): an ASCII letter
-abbrev pub is_name_start : ℕ → Bool
-is_name_start c = between 65 90 c || between 97 122 c
-
--- what a name goes on with (NameChar): an ASCII letter or digit
-abbrev pub is_name_char : ℕ → Bool
-is_name_char c = is_name_start c || between 48 57 c
-
--- Name: at most 512 characters
-abbrev pub is_name : List ℕ → Bool
-is_name [] = false
-is_name (c ∷ cs) = is_name_start c && list_all is_name_char cs && nat_le (length cs) 511
-
--- a character of text: a tab, a line feed, or printable ASCII other than `<`, `>`, `&` and `]`
-abbrev pub is_text_char : ℕ → Bool
-is_text_char c = (c == 9) || (c == 10) || (between 32 126 c && not (c == 60) && not (c == 62) && not (c == 38) && not (c == 93))
-
--- ---- tokens
-
--- A tag with its name: Open is STag, Empty is EmptyElemTag, Close is ETag. Or one character of CharData.
-pub data Token : Type 0 where
-  Tagged : Tag → List ℕ → Token
-  Char : ℕ → Token
-
-abbrev pub is_token : Token → Bool
-is_token (Tagged tag name) = is_name name
-is_token (Char c) = is_text_char c
-
--- `<name>`, `<name/>` and `</name>`
-abbrev pub spelled_tag : Tag → List ℕ → List ℕ
-spelled_tag Open name = 60 ∷ name ++ 62 ∷ []
-spelled_tag Empty name = 60 ∷ name ++ 47 ∷ 62 ∷ []
-spelled_tag Close name = 60 ∷ 47 ∷ name ++ 62 ∷ []
-
--- the bytes of a token
-abbrev pub spelled : Token → List ℕ
-spelled (Tagged tag name) = spelled_tag tag (encode_utf8_all name)
-spelled (Char c) = encode_utf8 c
-
--- ---- what tokens mean
-
--- where a node begins, and where it ends
+-- where a node begins and where it ends
 pub data Bracket : Type 0 where
   Begin : Kind → Bracket
   End : List ℕ → Bracket
 
--- the name in the end tag: a text has none
 abbrev pub name_of : Kind → List ℕ
 name_of (Element name attributes) = name
 name_of (Words text) = []
 
--- the characters between two tags make a text, unless all are white space
 abbrev pub text_brackets : List ℕ → List Bracket
 text_brackets run = if list_all is_space run then [] else Begin (Words (encode_utf8_all run)) ∷ End [] ∷ []
 
-abbrev pub tag_brackets : Tag → List ℕ → List Bracket
-tag_brackets Open name = Begin (Element name []) ∷ []
-tag_brackets Empty name = Begin (Element name []) ∷ End name ∷ []
-tag_brackets Close name = End name ∷ []
+abbrev pub start_brackets : Bool → List ℕ → List Written → List Bracket
+start_brackets empty name attributes = Begin (Element (encode_utf8_all name) (map attribute_of attributes)) ∷ (if empty then End (encode_utf8_all name) ∷ [] else [])
 
--- what tokens say, after the characters of run since the last tag
+-- what the tokens say, after the characters of run
 abbrev pub brackets : List ℕ → List Token → List Bracket
 brackets run [] = text_brackets run
-brackets run (Char c ∷ ts) = brackets (run ++ c ∷ []) ts
-brackets run (Tagged tag name ∷ ts) = text_brackets run ++ (tag_brackets tag (encode_utf8_all name) ++ brackets [] ts)
+brackets run (Data p ∷ ts) = brackets (run ++ meant p) ts
+brackets run (Section cs ∷ ts) = brackets (run ++ cs) ts
+brackets run (Comment cs ∷ ts) = brackets run ts
+brackets run (Instruction name cs ∷ ts) = brackets run ts
+brackets run (Start empty name attributes gap ∷ ts) = text_brackets run ++ (start_brackets empty name attributes ++ brackets [] ts)
+brackets run (Close name gap ∷ ts) = text_brackets run ++ (End (encode_utf8_all name) ∷ brackets [] ts)
+brackets run (Doctype gap name ext after ∷ ts) = brackets run ts
 
--- no characters stand outside the element
-abbrev pub IsBareOutside : ℕ → List Token → Type 0
-IsBareOutside depth [] = Unit {0}
-IsBareOutside depth (Char c ∷ ts) = (depth ≢ 0) × IsBareOutside depth ts
-IsBareOutside depth (Tagged Open name ∷ ts) = IsBareOutside (depth + 1) ts
-IsBareOutside depth (Tagged Empty name ∷ ts) = IsBareOutside depth ts
-IsBareOutside depth (Tagged Close name ∷ ts) = IsBareOutside (depth - 1) ts
+-- CharData (14): `]]>` stands in no unbroken run of character data; n brackets stand just before
+abbrev pub unbroken : ℕ → List Token → Bool
+unbroken n [] = true
+unbroken n (Data (Literal c) ∷ ts) = if c == 93 then unbroken (n + 1) ts else not ((c == 62) && nat_le 2 n) && unbroken 0 ts
+unbroken n (Data (Reference body) ∷ ts) = unbroken 0 ts
+unbroken n (Section cs ∷ ts) = unbroken 0 ts
+unbroken n (Comment cs ∷ ts) = unbroken 0 ts
+unbroken n (Instruction name cs ∷ ts) = unbroken 0 ts
+unbroken n (Start empty name attributes gap ∷ ts) = unbroken 0 ts
+unbroken n (Close name gap ∷ ts) = unbroken 0 ts
+unbroken n (Doctype gap name ext after ∷ ts) = unbroken 0 ts
 
--- ---- what a tree means
+abbrev pub is_inside : ℕ → Bool
+is_inside zero = false
+is_inside (suc depth) = true
 
--- where the nodes of trees begin and end
+-- document (1), prolog (22), Misc (27): what may stand outside the element, and where a document type may stand
+abbrev pub outside : Bool → ℕ → List Token → Bool
+outside before depth [] = true
+outside before depth (Data (Literal c) ∷ ts) = (is_inside depth || is_space c) && outside before depth ts
+outside before depth (Data (Reference body) ∷ ts) = is_inside depth && outside before depth ts
+outside before depth (Section cs ∷ ts) = is_inside depth && outside before depth ts
+outside before depth (Comment cs ∷ ts) = outside before depth ts
+outside before depth (Instruction name cs ∷ ts) = outside before depth ts
+outside before depth (Start empty name attributes gap ∷ ts) = outside false (if empty then depth else depth + 1) ts
+outside before depth (Close name gap ∷ ts) = outside false (depth - 1) ts
+outside before depth (Doctype gap name ext after ∷ ts) = before && outside false depth ts
+
+-- the tokens of the text form
+abbrev pub is_textual : Token → Bool
+is_textual (Data p) = true
+is_textual (Section cs) = true
+is_textual (Comment cs) = true
+is_textual (Instruction name cs) = true
+is_textual t = false
+
 abbrev pub bracketing : Trees Kind → List Bracket
 bracketing none = []
 bracketing (node kind inner rest) = Begin kind ∷ bracketing inner ++ End (name_of kind) ∷ bracketing rest
 
--- ---- which bytes spell which tree
+-- ---- the two forms
 
--- the tokens spell the bytes, and say where the nodes of the tree begin and end
-pub record SpelledBy (bytes : List ℕ) (t : Tree Kind) (tokens : List Token) : Type 0 where
-  pub each : AllByRecursion (λ x. IsTrue (is_token x)) tokens
-  pub spelled_so : bytes ≡ flat_map spelled tokens
-  pub bare : IsBareOutside 0 tokens
+-- the characters of an XML declaration, where one stands first
+abbrev pub spelled_first : Option Declaration → List ℕ
+spelled_first None = []
+spelled_first (Some d) = spelled_declaration d
+
+-- the document form: document (1), with or without an XML declaration first
+abbrev pub is_document : Option Declaration → List Token → Bool
+is_document None tokens = outside true 0 tokens
+is_document (Some d) tokens = is_declaration d && outside true 0 tokens
+
+-- the text form, in which no declaration stands
+abbrev pub is_text : Option Declaration → List Token → Bool
+is_text None tokens = list_all is_textual tokens
+is_text (Some d) tokens = false
+
+abbrev pub has_form : Option Declaration → List Token → Bool
+has_form first tokens = is_document first tokens || is_text first tokens
+
+-- the tokens of the characters, behind a declaration or not, say where the nodes of the tree begin and end
+pub record SpelledBy (cs : List ℕ) (t : Tree Kind) (first : Option Declaration) (tokens : List Token) : Type 0 where
+  pub each : IsTrue (list_all is_token tokens)
+  pub spelled_so : cs ≡ spelled_first first ++ flat_map spelled tokens
+  pub whole : IsTrue (unbroken 0 tokens)
+  pub form : IsTrue (has_form first tokens)
   pub tree_is : brackets [] tokens ≡ bracketing (one t)
 
--- the document form: an element
-abbrev pub SpellsElement : List ℕ → Tree Kind → Type 0
-SpellsElement bytes t = (tokens : List Token) × SpelledBy bytes t tokens
+-- each carriage return, with the line feed after it, is a line feed
+abbrev pub normal : Bool → List ℕ → List ℕ
+normal after [] = []
+normal after (c ∷ cs) = if c == 13 then 10 ∷ normal true cs else (if after && (c == 10) then normal false cs else c ∷ normal false cs)
 
--- the text form: characters of text, which have one byte each, and not white space alone
-pub record SpellsText (bytes : List ℕ) (t : Tree Kind) : Type 0 where
-  pub each : IsTrue (list_all is_text_char bytes)
-  pub told : list_all is_space bytes ≡ false
-  pub tree_is : t ≡ (Words bytes, none)
+-- without a byte order mark at the start
+abbrev pub without_mark : List ℕ → List ℕ
+without_mark [] = []
+without_mark (c ∷ cs) = if c == 65279 then cs else c ∷ cs
 
--- bytes spell a tree in the document form or in the text form
+-- the characters that the bytes stand for
+abbrev pub characters : List ℕ → List ℕ
+characters bytes = normal false (without_mark (chars bytes))
+
+-- the bytes are UTF-8 and all characters are Chars, and the declaration and the tokens spell them
+pub record SpellsBy (bytes : List ℕ) (t : Tree Kind) (first : Option Declaration) (tokens : List Token) : Type 0 where
+  pub encoded : IsTrue (are_chars bytes)
+  pub by : SpelledBy (characters bytes) t first tokens
+
 abbrev pub Spells : List ℕ → Tree Kind → Type 0
-Spells bytes t = SpellsElement bytes t ⊎ SpellsText bytes t
-
--- ---- the content of an element
-
--- the tokens spell the bytes, and say where the children begin and end
-pub record ContentBy (bytes : List ℕ) (children : Trees Kind) (tokens : List Token) : Type 0 where
-  pub each : AllByRecursion (λ x. IsTrue (is_token x)) tokens
-  pub spelled_so : bytes ≡ flat_map spelled tokens
-  pub children_are : brackets [] tokens ≡ bracketing children
-
--- content: what may stand between STag and ETag
-abbrev pub SpellsContent : List ℕ → Trees Kind → Type 0
-SpellsContent bytes children = (tokens : List Token) × ContentBy bytes children tokens
-
--- children behind the characters of a text, which make a node unless they are blank
-abbrev pub behind_text : List ℕ → Trees Kind → Trees Kind
-behind_text text children = if list_all is_space text then children else node (Words (encode_utf8_all text)) none children
-
--- no text goes on there: the end, or a tag
-abbrev pub EndsText : List ℕ → Type 0
-EndsText [] = Unit {0}
-EndsText (b ∷ bytes) = b ≡ 60
+Spells bytes t = (first : Option Declaration) × (tokens : List Token) × SpellsBy bytes t first tokens

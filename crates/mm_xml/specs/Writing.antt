@@ -1,11 +1,13 @@
 -- The text of trees: one line without a line end.
-use Rattle.std.specs.Prelude.{ℕ, ◌≡◌, refl, Bool, true, false, List, [], ◌∷◌, ◌++◌, ◌==◌, if◌then◌else◌, codes}
+use Rattle.std.specs.Prelude.{ℕ, ◌≡◌, refl, Bool, true, false, ◌&&◌, List, [], ◌∷◌, ◌++◌, ◌==◌, if◌then◌else◌, codes}
 use Rattle.std.specs.List.{flat_map}
+use Rattle.std.specs.Str.{chars}
 use Rattle.mm_tree.specs.declared.Attribute.{Attribute}
 use Rattle.mm_tree.specs.declared.Kind.{Kind}
 use Rattle.mm_tree.specs.declared.Kind.TheVariants.{Element, Words}
 use Rattle.mm_tree.specs.Trees.{Trees, none, node, has_some}
 use Rattle.mm_tree.specs.Numbering.{Labelled}
+use Rattle.mm_xml.specs.Productions.{is_marked}
 
 -- ---- characters, of which those that are written as references have one byte
 
@@ -58,6 +60,25 @@ written (node kind inner rest) = written_node kind (has_some inner) (written inn
 abbrev pub without_labels : Trees Labelled → Trees Kind
 without_labels none = none
 without_labels (node e inner rest) = node e.kind (without_labels inner) (without_labels rest)
+
+-- ---- what is read back
+
+-- a text doesn't come first
+abbrev pub no_text : Trees Kind → Bool
+no_text none = true
+no_text (node (Words text) inner rest) = false
+no_text (node (Element name attributes) inner rest) = true
+
+-- no two texts are neighbours
+abbrev pub are_apart : Trees Kind → Bool
+are_apart none = true
+are_apart (node (Words text) inner rest) = no_text rest && (are_apart inner && are_apart rest)
+are_apart (node (Element name attributes) inner rest) = are_apart inner && are_apart rest
+
+-- a text that begins with a byte order mark, which a reader would drop
+abbrev pub is_marked_text : Kind → Bool
+is_marked_text (Words text) = is_marked (chars text)
+is_marked_text (Element name attributes) = false
 
 -- ---- worked examples
 

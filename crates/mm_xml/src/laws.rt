@@ -1,36 +1,122 @@
 //! Laws of the definitions that the reader is held to. Each function's contract is a law, and its
 //! proof is all that it does. `one_tree` says that the definition leaves no choice, `valid_tree` that
-//! what is spelled can be stored, and the others are the productions of XML 1.0, fifth edition, as
-//! sentences on bytes.
+//! what is spelled can be stored, `reads_back` that what is written spells the node, and the others are
+//! the productions of XML 1.0, fifth edition, as sentences on bytes. What they take in characters has its
+//! line ends turned: no carriage return.
 
-ghost use Rattle.std.specs.Prelude.{◌≡◌, ◌<◌, ◌^◌, ◌++◌, [], ℕ, List, length, IsTrue};
-ghost use Rattle.std.specs.List.{list_all};
-ghost use Rattle.std.specs.Str.{encode_utf8_all};
+ghost use Rattle.std.specs.Prelude.{◌≡◌, ◌<◌, ◌^◌, ◌++◌, ◌∷◌, [], ◌⊎◌, ◌||◌, false, true, ℕ, List, Option, Some, length, map, IsTrue};
+ghost use Rattle.std.specs.List.{list_all, flat_map};
+ghost use Rattle.std.specs.Str.{chars, encode_utf8_all};
 ghost use Rattle.mm_tree.specs.declared.Kind.{Kind};
-ghost use Rattle.mm_tree.specs.declared.Kind.TheVariants.{Element};
-ghost use Rattle.mm_tree.specs.Trees.{Trees, none, node, Tree};
-ghost use Rattle.mm_tree.specs.Validity.{is_valid_tree};
-ghost use Rattle.mm_xml.specs.declared.token.Tag.TheVariants.{Open, Empty, Close};
-ghost use Rattle.mm_xml.specs.Grammar.{is_name, is_text_char, spelled_tag, Spells, SpellsElement, SpellsText, SpellsContent, behind_text, EndsText};
+ghost use Rattle.mm_tree.specs.declared.Kind.TheVariants.{Element, Words};
+ghost use Rattle.mm_tree.specs.Characters.{is_space};
+ghost use Rattle.mm_tree.specs.Trees.{Trees, none, node, Tree, one, every};
+ghost use Rattle.mm_tree.specs.Numbering.{Labelled};
+ghost use Rattle.mm_tree.specs.Validity.{is_valid_node, is_valid_tree};
+ghost use Rattle.mm_xml.specs.Letters.{referred, is_free};
+ghost use Rattle.mm_xml.specs.Syntax.{is_literal, not_semicolon, Written, spelled_written, attribute_of, External, Token, Section, Comment, Instruction, Start, Close, Doctype, is_token, spelled, Declaration};
+ghost use Rattle.mm_xml.specs.Grammar.{spelled_first, Spells};
+ghost use Rattle.mm_xml.specs.Productions.{is_plain, lines, SpellsRun, ends_run, ends_markup, ends_text, SpellsContent, behind_text, SpellsElement, is_misc, SpellsMisc, SpellsProlog, is_first, is_marked, SpellsDocument, SpellsText};
+ghost use Rattle.mm_xml.specs.Writing.{written, without_labels, are_apart, is_marked_text};
 
 /// Bytes spell at most one tree.
 pub fn one_tree()
     ensures { (bytes : List ℕ) (t u : Tree Kind) → Spells bytes t → Spells bytes u → t ≡ u }
 {}
 
-/// No bytes spell both an element and a text.
+/// What bytes spell they spell in the document form or in the text form.
+pub fn two_forms()
+    ensures { (bytes : List ℕ) (t : Tree Kind) → Spells bytes t → SpellsDocument bytes t ⊎ SpellsText bytes t }
+{}
+
+/// No bytes spell both a document and a text.
 pub fn one_form()
-    ensures { (bytes : List ℕ) (t u : Tree Kind) → SpellsElement bytes t → ¬ SpellsText bytes u }
+    ensures { (bytes : List ℕ) (t u : Tree Kind) → SpellsDocument bytes t → ¬ SpellsText bytes u }
+{}
+
+/// One byte order mark may stand first.
+pub fn marked()
+    ensures { (bytes : List ℕ) (t : Tree Kind) → is_marked (chars bytes) ≡ false → Spells bytes t → Spells (encode_utf8_all (65279 ∷ []) ++ bytes) t }
+{}
+
+/// A document is an XMLDecl or nothing, Misc with or without a doctypedecl, an element, and Misc.
+pub fn document()
+    ensures { (first : Option Declaration) (before bytes behind : List ℕ) (t : Tree Kind) → IsTrue (is_first first) → IsTrue (list_all is_plain (spelled_first first)) → SpellsProlog before → SpellsElement bytes t → SpellsMisc behind → SpellsDocument (encode_utf8_all (spelled_first first) ++ (before ++ (bytes ++ behind))) t }
+{}
+
+/// An element alone is a document.
+pub fn element_alone()
+    ensures { (bytes : List ℕ) (t : Tree Kind) → SpellsElement bytes t → SpellsDocument bytes t }
+{}
+
+/// Misc, any number, may be none.
+pub fn no_misc()
+    ensures { SpellsMisc [] }
+{}
+
+/// Misc is S, a Comment or a PI, and then Misc.
+pub fn misc()
+    ensures { (t : Token) (bytes : List ℕ) → IsTrue (is_misc t) → IsTrue (is_token t) → IsTrue (list_all is_plain (spelled t)) → SpellsMisc bytes → SpellsMisc (encode_utf8_all (spelled t) ++ bytes) }
+{}
+
+/// What stands before an element may be Misc.
+pub fn misc_prolog()
+    ensures { (bytes : List ℕ) → SpellsMisc bytes → SpellsProlog bytes }
+{}
+
+/// What stands before an element may be Misc, a doctypedecl and Misc.
+pub fn doctype()
+    ensures { (before behind gap name after : List ℕ) (external : External) → SpellsMisc before → IsTrue (is_token (Doctype gap name external after)) → IsTrue (list_all is_plain (spelled (Doctype gap name external after))) → SpellsMisc behind → SpellsProlog (before ++ (encode_utf8_all (spelled (Doctype gap name external after)) ++ behind)) }
+{}
+
+/// A text that isn't blank is the text form of a node.
+pub fn text_form()
+    ensures { (bytes text : List ℕ) → SpellsRun bytes text → list_all is_space text ≡ false → is_marked (chars bytes) ≡ false → SpellsText bytes (Words (encode_utf8_all text), none) }
+{}
+
+/// A text may be nothing.
+pub fn no_text()
+    ensures { SpellsRun [] [] }
+{}
+
+/// A text may be CharData, in which `]]>` doesn't stand.
+pub fn char_data()
+    ensures { (text : List ℕ) → IsTrue (list_all is_plain text) → IsTrue (list_all is_literal text) → IsTrue (is_free (93 ∷ 93 ∷ 62 ∷ []) text) → SpellsRun (encode_utf8_all text) text }
+{}
+
+/// A text may be a Reference, which stands for its character.
+pub fn reference()
+    ensures { (body : List ℕ) (c : ℕ) → IsTrue (list_all is_plain body) → IsTrue (list_all not_semicolon body) → referred body ≡ Some c → SpellsRun (encode_utf8_all (38 ∷ (body ++ 59 ∷ []))) (c ∷ []) }
+{}
+
+/// A text may be a CDSect, which stands for its characters.
+pub fn section()
+    ensures { (cs : List ℕ) → IsTrue (is_token (Section cs)) → IsTrue (list_all is_plain cs) → SpellsRun (encode_utf8_all (spelled (Section cs))) cs }
+{}
+
+/// A Comment adds nothing to a text.
+pub fn comment()
+    ensures { (cs : List ℕ) → IsTrue (is_token (Comment cs)) → IsTrue (list_all is_plain cs) → SpellsRun (encode_utf8_all (spelled (Comment cs))) [] }
+{}
+
+/// A PI adds nothing to a text.
+pub fn instruction()
+    ensures { (name cs : List ℕ) → IsTrue (is_token (Instruction name cs)) → IsTrue (list_all is_plain cs) → SpellsRun (encode_utf8_all (spelled (Instruction name cs))) [] }
+{}
+
+/// Texts behind one another are one text, where no run of CharData goes on from one to the other.
+pub fn joined_text()
+    ensures { (a b text more : List ℕ) → SpellsRun a text → SpellsRun b more → IsTrue (ends_run (chars b) || ends_markup (lines a)) → SpellsRun (a ++ b) (text ++ more) }
 {}
 
 /// An element is an EmptyElemTag.
 pub fn empty_element()
-    ensures { (name : List ℕ) → IsTrue (is_name name) → SpellsElement (spelled_tag Empty (encode_utf8_all name)) (Element (encode_utf8_all name) [], none) }
+    ensures { (name gap : List ℕ) (attributes : List Written) → IsTrue (is_token (Start true name attributes gap)) → IsTrue (list_all is_plain (flat_map spelled_written attributes ++ gap)) → SpellsElement (encode_utf8_all (spelled (Start true name attributes gap))) (Element (encode_utf8_all name) (map attribute_of attributes), none) }
 {}
 
 /// An element is a STag, content and an ETag of the same name.
 pub fn element()
-    ensures { (name content : List ℕ) (children : Trees Kind) → IsTrue (is_name name) → SpellsContent content children → SpellsElement (spelled_tag Open (encode_utf8_all name) ++ (content ++ spelled_tag Close (encode_utf8_all name))) (Element (encode_utf8_all name) [], children) }
+    ensures { (name gap close_gap content : List ℕ) (attributes : List Written) (children : Trees Kind) → IsTrue (is_token (Start false name attributes gap)) → IsTrue (list_all is_plain (flat_map spelled_written attributes ++ gap)) → IsTrue (list_all is_space close_gap) → IsTrue (list_all is_plain close_gap) → SpellsContent content children → SpellsElement (encode_utf8_all (spelled (Start false name attributes gap)) ++ (content ++ encode_utf8_all (spelled (Close name close_gap)))) (Element (encode_utf8_all name) (map attribute_of attributes), children) }
 {}
 
 /// Content may be nothing.
@@ -38,9 +124,9 @@ pub fn no_content()
     ensures { SpellsContent [] none }
 {}
 
-/// Content may be CharData, up to the end or the next tag, and then content.
+/// Content may be a text, up to the end or the next tag, and then content.
 pub fn text_in_content()
-    ensures { (text content : List ℕ) (children : Trees Kind) → IsTrue (list_all is_text_char text) → EndsText content → SpellsContent content children → SpellsContent (encode_utf8_all text ++ content) (behind_text text children) }
+    ensures { (bytes text content : List ℕ) (children : Trees Kind) → SpellsRun bytes text → IsTrue (ends_text (chars content)) → SpellsContent content children → SpellsContent (bytes ++ content) (behind_text text children) }
 {}
 
 /// Content may be an element, and then content.
@@ -51,4 +137,11 @@ pub fn element_in_content()
 /// The tree that bytes spell can be stored, if the bytes are fewer than 2^32.
 pub fn valid_tree()
     ensures { (bytes : List ℕ) (t : Tree Kind) → length bytes < 2 ^ 32 → Spells bytes t → IsTrue (is_valid_tree t) }
+{}
+
+/// What is written reads back: what `write` gives for a node spells the node without its labels, where its
+/// kinds are valid, its texts have no children and no texts for neighbours, and it isn't itself a text
+/// that begins with a byte order mark.
+pub fn reads_back()
+    ensures { (n : Tree Labelled) → IsTrue (every is_valid_node (without_labels (one n))) → IsTrue (are_apart (without_labels (one n))) → is_marked_text n.0.kind ≡ false → Spells (written (without_labels (one n))) (n.0.kind, without_labels n.1) }
 {}

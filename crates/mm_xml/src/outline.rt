@@ -1,127 +1,148 @@
-ghost use Rattle.std.specs.Prelude.{◌≡◌, ◌+◌, [], length};
-ghost use Rattle.std.specs.List.{list_all};
-ghost use Rattle.mm_tree.specs.Characters.{is_space as space_is};
-ghost use Rattle.mm_xml.specs.Skimming.{skimmed, skim_open, skim_close, skim_empty, skim_text, skim_step, skim_end, skim_all, is_over, reached};
-ghost use Rattle.mm_xml.specs.Builds.{outline_of, Moves, Counts};
-ghost use Rattle.mm_xml.specs.Lexemes.{span_of};
+ghost use Rattle.std.specs.Prelude.{◌≡◌, ◌≤◌, [], false};
+ghost use Rattle.std.specs.Str.{chars};
+ghost use Rattle.mm_xml.specs.Outlines.{outlined, is_over, outline_begin, outline_end, outline_leaf, outline_text, outline_open, outline_start, outline_finish, outline_step, outline_as};
+ghost use Rattle.mm_xml.specs.Builds.{outline_of, order_of, Moves, Blanks, Outlines};
+ghost use Rattle.mm_xml.specs.Lexemes.{sign_of};
 
 use crate::error::XmlError;
-use crate::token::{Lexeme, Tag, next_lexeme};
+use crate::letters::{is_blank, is_space};
+use crate::lexeme::{Lexeme, next_lexeme};
+use crate::order::Order;
+use crate::text::is_empty;
+use mm_tree::Text;
 use std::alloc::Global;
 
-/// The names of the open elements, and the greatest depth so far: what tells how many levels a
-/// document has, without its tree.
+/// The names of the open elements, and whether a node was met: what tells whether characters spell a
+/// tree, without the tree.
 #[derive(Drop)]
-pub struct Outline<'a> {
-    pub names: Vec<&'a [u8]>,
-    pub deepest: usize,
+pub struct Outline {
+    pub names: Vec<Text>,
+    pub begun: bool,
 }
 
-/// Whether all of a text is white space.
-pub fn is_blank(text: &[u8]) -> bool
-    ensures { result ≡ list_all space_is text.now }
-{
-    text.iter()
-        .all(|b| *b == 32 || *b == 9 || *b == 13 || *b == 10)
-}
-
-impl<'a> Outline<'a> {
-    fn new(alloc: Global) -> Outline<'a>
-        ensures { outline_of result ≡ skimmed [] 0 }
+impl Outline {
+    fn new(alloc: Global) -> Outline
+        ensures { outline_of result ≡ outlined [] false }
     {
         Outline {
             names: Vec::new(alloc),
-            deepest: 0,
+            begun: false,
         }
     }
 
-    /// Whether the element was closed.
-    fn is_closed(&self) -> bool
+    /// Whether the tree was closed.
+    fn is_over(&self) -> bool
         ensures { result ≡ is_over (outline_of self.now) }
     {
-        self.names.is_empty() && self.deepest != 0
+        self.begun && self.names.is_empty()
     }
 
-    /// The greatest depth, once there is a node inside the open elements.
-    fn depth_inside(&self) -> usize
-        ensures { result ≡ reached (outline_of self.now) }
+    fn begin(&mut self, name: Text) -> Result<(), XmlError>
+        ensures { Moves result (outline_of self.new) (outline_begin (outline_of self.old) name) }
     {
-        self.deepest.max(self.names.len() + 1)
-    }
-
-    fn open(&mut self, name: &'a [u8]) -> Result<(), XmlError>
-        ensures { Moves result (outline_of self.new) (skim_open (outline_of self.old) name.now) }
-    {
-        if self.is_closed() {
+        if self.is_over() {
             return Err(XmlError::NotXml);
         }
-        let depth = self.depth_inside();
         self.names.push(name)?;
-        self.deepest = depth;
+        self.begun = true;
         Ok(())
     }
 
-    fn close(&mut self, name: &[u8]) -> Result<(), XmlError>
-        ensures { Moves result (outline_of self.new) (skim_close (outline_of self.old).names self.old.deepest name.now) }
+    fn end(&mut self, name: &Text) -> Result<(), XmlError>
+        ensures { Moves result (outline_of self.new) (outline_end (outline_of self.old).names self.old.begun name.now) }
     {
         match self.names.pop() {
-            Some(own) if name == own => Ok(()),
+            Some(own) if name.as_bytes() == own.as_bytes() => Ok(()),
             _ => Err(XmlError::NotXml),
         }
     }
 
-    fn empty(&mut self) -> Result<(), XmlError>
-        ensures { Moves result (outline_of self.new) (skim_empty (outline_of self.old)) }
+    fn leaf(&mut self) -> Result<(), XmlError>
+        ensures { Moves result (outline_of self.new) (outline_leaf (outline_of self.old)) }
     {
-        if self.is_closed() {
+        if self.is_over() {
             return Err(XmlError::NotXml);
         }
-        self.deepest = self.depth_inside();
+        self.begun = true;
         Ok(())
     }
 
-    fn text(&mut self, text: &[u8]) -> Result<(), XmlError>
-        ensures { Moves result (outline_of self.new) (skim_text (outline_of self.old) text.now) }
+    fn text(&mut self, blank: bool) -> Result<(), XmlError>
+        ensures { Moves result (outline_of self.new) (outline_text (outline_of self.old) blank) }
     {
-        if self.names.is_empty() {
-            return Err(XmlError::NotXml);
-        }
-        if !is_blank(text) {
-            self.deepest = self.depth_inside();
-        }
-        Ok(())
+        if blank { Ok(()) } else { self.leaf() }
     }
 
-    fn step(&mut self, lexeme: Lexeme<'a>) -> Result<(), XmlError>
-        ensures { Moves result (outline_of self.new) (skim_step (outline_of self.old) (span_of lexeme.entry)) }
+    fn open(&mut self, empty: bool, name: Text) -> Result<(), XmlError>
+        ensures { Moves result (outline_of self.new) (outline_open (outline_of self.old) empty name) }
+    {
+        if empty { self.leaf() } else { self.begin(name) }
+    }
+
+    fn start(&mut self, blank: bool, empty: bool, name: Text) -> Result<(), XmlError>
+        ensures { Moves result (outline_of self.new) (outline_start (outline_of self.old) blank empty name) }
+    {
+        self.text(blank)?;
+        self.open(empty, name)
+    }
+
+    fn finish_element(&mut self, blank: bool, name: &Text) -> Result<(), XmlError>
+        ensures { Moves result (outline_of self.new) (outline_finish (outline_of self.old) blank name.now) }
+    {
+        self.text(blank)?;
+        self.end(name)
+    }
+
+    /// Takes the next lexeme in. Gives whether the characters since the last tag are still blank.
+    fn step(&mut self, blank: bool, lexeme: Lexeme<'_>) -> Result<bool, XmlError>
+        ensures { Blanks result (outline_of self.new) (outline_step (outline_of self.old) blank (sign_of lexeme.entry)) }
     {
         match lexeme {
-            Lexeme::Tagged(Tag::Open, name) => self.open(name),
-            Lexeme::Tagged(Tag::Empty, _) => self.empty(),
-            Lexeme::Tagged(Tag::Close, name) => self.close(name),
-            Lexeme::Run(text) => self.text(text),
+            Lexeme::Character(c) => Ok(blank && is_space(c)),
+            Lexeme::Named(c) => Ok(blank && is_space(c)),
+            Lexeme::Section(inner) => Ok(blank && is_blank(inner)),
+            Lexeme::Skipped | Lexeme::Doctype => Ok(blank),
+            Lexeme::Open(empty, name, _) => {
+                self.start(blank, empty, name)?;
+                Ok(true)
+            }
+            Lexeme::Close(name) => {
+                self.finish_element(blank, &name)?;
+                Ok(true)
+            }
         }
     }
 }
 
-/// How many levels the tree has that the bytes spell. Builds nothing of it.
-pub fn level_count(alloc: Global, bytes: &[u8]) -> Result<usize, XmlError>
-    ensures { Counts result (skim_all bytes.now) }
+/// Whether the characters spell a tree, however deep. Builds nothing of it.
+pub fn find_tree(alloc: Global, order: Order, text: &str) -> Result<(), XmlError>
+    requires depth { order.depth ≤ 1 }
+    requires squares { order.squares ≡ 0 }
+    ensures { Outlines result (outline_as (order_of order) (chars text.now)) }
 {
     let mut outline = Outline::new(alloc);
-    let mut rest = bytes;
-    for _ in 0..bytes.len() {
-        if rest.is_empty() {
+    let mut order = order;
+    let mut blank = true;
+    let mut rest = text;
+    for _ in 0..text.len() {
+        if is_empty(rest) {
             break;
         }
-        let Some((lexeme, after)) = next_lexeme(rest) else {
+        let Some((lexeme, behind)) = next_lexeme(alloc, rest)? else {
             return Err(XmlError::NotXml);
         };
-        outline.step(lexeme)?;
-        rest = after;
+        if !order.accept(&lexeme) {
+            return Err(XmlError::NotXml);
+        }
+        blank = outline.step(blank, lexeme)?;
+        rest = behind;
     }
-    if rest.is_empty() && outline.is_closed() {
-        Ok(outline.deepest)
+    if !is_empty(rest) {
+        return Err(XmlError::NotXml);
+    }
+    outline.text(blank)?;
+    if outline.is_over() {
+        Ok(())
     } else {
         Err(XmlError::NotXml)
     }

@@ -1,84 +1,68 @@
-ghost use Rattle.std.specs.Prelude.{◌≡◌, ◌<◌, ◌^◌, ◌&&◌, not, length, IfOk, IsErrOf, IsTrue};
-ghost use Rattle.std.specs.List.{list_all};
-ghost use Rattle.std.specs.Str.{IsUtf8};
-ghost use Rattle.mm_tree.specs.Characters.{is_space as space_is};
+ghost use Rattle.std.specs.Prelude.{◌≡◌, ◌<◌, ◌≤◌, ◌^◌, length, false, IfOk, IsErrOf, IsTrue};
+ghost use Rattle.std.specs.Str.{chars};
 ghost use Rattle.mm_tree.specs.declared.Kind.{Kind};
 ghost use Rattle.mm_tree.specs.Trees.{Tree, tree_of};
 ghost use Rattle.mm_tree.specs.Validity.{is_valid_tree};
-ghost use Rattle.mm_xml.specs.Grammar.{is_text_char as text_char_is, Spells};
-ghost use Rattle.mm_xml.specs.Reading.{read_all};
-ghost use Rattle.mm_xml.specs.Builds.{state_of, Gives};
-ghost use Rattle.mm_xml.specs.Answers.{IsShallow, IsTooDeep, AnswersFor, ReadsElement, ReadsText};
+ghost use Rattle.mm_xml.specs.Grammar.{Spells, normal};
+ghost use Rattle.mm_xml.specs.Machine.{read_as, read_plain, read_all};
+ghost use Rattle.mm_xml.specs.Builds.{order_of, Reads};
+ghost use Rattle.mm_xml.specs.Answers.{IsShallow, IsTooDeep, AnswersFor};
 
+use crate::builder::build;
+use crate::declaration::after_declaration;
+use crate::decode::{decode, has_line_feeds, with_line_feeds};
 use crate::error::XmlError;
-use crate::outline::{is_blank, level_count};
-use crate::stack::{Stack, text_of};
-use crate::token::{is_text_char, next_lexeme};
-use mm_list::Items;
-use mm_tree::{Kind, Plain};
+use crate::order::Order;
+use crate::outline::find_tree;
+use mm_tree::Plain;
 use std::alloc::Global;
 
-/// The tree of the bytes. Stops at the first level too many, whatever follows.
-fn shallow_tree(alloc: Global, bytes: &[u8]) -> Result<Plain, XmlError>
-    ensures { Gives result (read_all bytes.now) }
+/// The tree that the characters spell in one of the two forms.
+fn read_as(alloc: Global, order: Order, text: &str) -> Result<Plain, XmlError>
+    requires depth { order.depth ≤ 1 }
+    requires squares { order.squares ≡ 0 }
+    ensures { Reads result (read_as (order_of order) (chars text.now)) }
 {
-    let mut stack = Stack::new(alloc);
-    let mut rest = bytes;
-    for _ in 0..bytes.len() {
-        if rest.is_empty() {
-            break;
-        }
-        let Some((lexeme, after)) = next_lexeme(rest) else {
-            return Err(XmlError::NotXml);
-        };
-        stack.step(alloc, lexeme)?;
-        rest = after;
-    }
-    if !rest.is_empty() {
-        return Err(XmlError::NotXml);
-    }
-    stack.finish().ok_or(XmlError::NotXml)
-}
-
-/// The one element that the bytes spell, if it has at most 200 levels.
-fn read_element(alloc: Global, bytes: &[u8]) -> Result<Plain, XmlError>
-    ensures { ReadsElement result bytes.now }
-{
-    match shallow_tree(alloc, bytes) {
-        Ok(tree) => Ok(tree),
-        Err(XmlError::NotXml) => Err(XmlError::NotXml),
+    match build(alloc, order, text) {
         Err(XmlError::TooDeep) => {
             // What is malformed further on is no XML, however deep.
-            level_count(alloc, bytes)?;
+            find_tree(alloc, order, text)?;
             Err(XmlError::TooDeep)
         }
-        Err(XmlError::Memory) => Err(XmlError::Memory),
+        answer => answer,
     }
 }
 
-/// The text that the bytes spell, which are characters of text and not all white space.
-fn read_text(alloc: Global, bytes: &[u8]) -> Result<Plain, XmlError>
-    requires { IsUtf8 bytes.now }
-    ensures { ReadsText result bytes.now }
+/// The tree that the characters spell, in the document form or in the text form, without a declaration.
+fn read_plain(alloc: Global, text: &str) -> Result<Plain, XmlError>
+    ensures { Reads result (read_plain (chars text.now)) }
 {
-    let text = text_of(alloc, bytes)?;
-    Ok(Plain {
-        kind: Kind::Words { text },
-        children: Items::new(alloc),
-    })
+    match read_as(alloc, Order::document(), text) {
+        Err(XmlError::NotXml) => read_as(alloc, Order::text(), text),
+        answer => answer,
+    }
 }
 
-fn is_char_data(bytes: &[u8]) -> bool
-    ensures { result ≡ list_all text_char_is bytes.now }
+/// The tree that the characters spell. Behind an XML declaration stands a document.
+fn read_characters(alloc: Global, text: &str) -> Result<Plain, XmlError>
+    ensures { Reads result (read_all (chars text.now)) }
 {
-    bytes.iter().all(|b| is_text_char(*b))
+    match after_declaration(text) {
+        Some(rest) => read_as(alloc, Order::document(), rest),
+        None => read_plain(alloc, text),
+    }
 }
 
-/// Whether all bytes are characters of text, and some aren't white space.
-fn is_text(bytes: &[u8]) -> bool
-    ensures { result ≡ (list_all text_char_is bytes.now && not (list_all space_is bytes.now)) }
+/// The tree that the characters spell once their line ends are line feeds. Only a text with carriage
+/// returns is copied.
+fn read_lines(alloc: Global, text: &str) -> Result<Plain, XmlError>
+    ensures { Reads result (read_all (normal false (chars text.now))) }
 {
-    is_char_data(bytes) && !is_blank(bytes)
+    if has_line_feeds(text) {
+        return read_characters(alloc, text);
+    }
+    let lines = with_line_feeds(alloc, text)?;
+    read_characters(alloc, lines.as_str())
 }
 
 /// The one tree that the bytes spell, an element or a text, if it has at most 200 levels. A text counts
@@ -95,9 +79,8 @@ pub fn read(alloc: Global, bytes: &[u8]) -> Result<Plain, XmlError>
     // What is given can be stored.
     ensures valid { length bytes.now < 2 ^ 32 → IfOk result (λ p. IsTrue (is_valid_tree (tree_of p))) }
 {
-    if is_text(bytes) {
-        read_text(alloc, bytes)
-    } else {
-        read_element(alloc, bytes)
+    match decode(bytes) {
+        Some(text) => read_lines(alloc, text),
+        None => Err(XmlError::NotXml),
     }
 }

@@ -1,17 +1,16 @@
-ghost use Rattle.std.specs.Prelude.{◌≡◌, ◌<◌, ◌≤◌, [], IfOk, IsTrue, not, true, false, Some};
-ghost use Rattle.std.specs.Str.{bytes_eq, IsUtf8};
+ghost use Rattle.std.specs.Prelude.{◌≡◌, ◌<◌, ◌≤◌, [], IfOk, IsTrue, not, true, false};
+ghost use Rattle.std.specs.Str.{bytes_eq, chars};
 ghost use Rattle.std.specs.List.{list_all};
 ghost use Rattle.mm_tree.specs.Characters.{is_space as space_is};
 ghost use Rattle.mm_tree.specs.Trees.{tree_of};
 ghost use Rattle.mm_xml.specs.Answers.{most_levels};
-ghost use Rattle.mm_xml.specs.Grammar.{Begin, End, name_of, tag_brackets};
-ghost use Rattle.mm_xml.specs.Reading.{place, place_all, finished, frame_tree, closed, text_step, span_step, Before, Mark, depth_of, adds_node};
-ghost use Rattle.mm_xml.specs.Builds.{state_of, frame_of, frames_of, Moves, Steps, Ends};
-ghost use Rattle.mm_xml.specs.Lexemes.{span_of, held};
+ghost use Rattle.mm_xml.specs.Grammar.{Begin, End, name_of};
+ghost use Rattle.mm_xml.specs.Machine.{place, leaf_at, text_step, open_step, start_step, end_step, finish_step, finished, frame_tree, closed, Before, depth_of};
+ghost use Rattle.mm_xml.specs.Builds.{state_of, frame_of, frames_of, Steps, MovesTo, Places, Ends, Finishes};
 
+use crate::attribute::text_of;
 use crate::error::XmlError;
-use crate::outline::is_blank;
-use crate::token::{Lexeme, Tag};
+use crate::letters::is_blank;
 use mm_list::Items;
 use mm_tree::{Kind, Plain, Text};
 use std::alloc::{AllocError, Global};
@@ -33,17 +32,6 @@ pub struct Stack {
     pub frames: Vec<Opened>,
     pub whole: Option<Plain>,
     pub spare: Vec<Vec<Plain>>,
-}
-
-/// A copy of bytes as a text.
-pub fn text_of(alloc: Global, bytes: &[u8]) -> Result<Text, AllocError>
-    requires { IsUtf8 bytes.now }
-    ensures { IfOk result (λ t. t ≡ bytes.now) }
-{
-    match str::from_utf8(bytes) {
-        Ok(text) => Text::from_str(alloc, text),
-        Err(_) => unreachable!(),
-    }
 }
 
 /// The list, without what it holds, or a new one.
@@ -118,13 +106,13 @@ impl Stack {
         Ok(())
     }
 
-    fn end(&mut self, alloc: Global, name: &[u8]) -> Result<(), XmlError>
-        ensures { Moves result (state_of self.new) (place (state_of self.old) (End name.now)) }
+    fn end(&mut self, alloc: Global, name: &Text) -> Result<(), XmlError>
+        ensures { MovesTo result (state_of self.new) (place (state_of self.old) (End name.now)) }
     {
         let Some(top) = self.frames.pop() else {
             return Err(XmlError::NotXml);
         };
-        if !top.has_name(name) {
+        if !top.has_name(name.as_bytes()) {
             return Err(XmlError::NotXml);
         }
         let (tree, grown) = top.into_tree(alloc)?;
@@ -134,7 +122,7 @@ impl Stack {
 
     /// Puts a tree that is whole into its place.
     fn close(&mut self, tree: Plain) -> Result<(), XmlError>
-        ensures { Moves result (state_of self.new) (Some (closed (tree_of tree) (frames_of self.old.frames.items))) }
+        ensures { MovesTo result (state_of self.new) (Some (closed (tree_of tree) (frames_of self.old.frames.items))) }
     {
         match self.frames.pop() {
             None => {
@@ -149,73 +137,75 @@ impl Stack {
         }
     }
 
-    /// Puts the text between two tags into its place.
-    fn text(&mut self, alloc: Global, text: &[u8]) -> Result<(), XmlError>
-        requires { IsUtf8 text.now }
-        ensures { Steps result (not (list_all space_is text.now)) (state_of self.old) (state_of self.new) (text_step (state_of self.old) text.now) }
+    /// A node without others in it.
+    fn leaf(&mut self, alloc: Global, kind: Kind) -> Result<(), XmlError>
+        ensures { Steps result true (state_of self.old) (state_of self.new) (leaf_at (state_of self.old) kind) }
     {
-        if is_blank(text) {
-            return if self.frames.is_empty() {
-                Err(XmlError::NotXml)
-            } else {
-                Ok(())
-            };
-        }
         if self.is_full() {
             return Err(XmlError::TooDeep);
         }
-        let Some(mut outer) = self.frames.pop() else {
+        if self.frames.is_empty() && self.whole.is_some() {
             return Err(XmlError::NotXml);
-        };
-        let text = text_of(alloc, text)?;
-        outer.children.push(Plain {
-            kind: Kind::Words { text },
+        }
+        self.close(Plain {
+            kind,
             children: Items::new(alloc),
-        })?;
-        self.frames.push(outer)?;
-        Ok(())
+        })
     }
 
-    fn open(&mut self, alloc: Global, name: &[u8]) -> Result<(), XmlError>
-        requires { IsUtf8 name.now }
-        ensures { Steps result true (state_of self.old) (state_of self.new) (place_all (state_of self.old) (tag_brackets Tag.Open name.now)) }
+    /// The characters between two tags, which make a text unless they are blank.
+    fn text(&mut self, alloc: Global, run: &str) -> Result<(), XmlError>
+        ensures { Steps result (not (list_all space_is (chars run.now))) (state_of self.old) (state_of self.new) (text_step (state_of self.old) (chars run.now)) }
     {
-        let name = text_of(alloc, name)?;
-        self.begin(
-            alloc,
-            Kind::Element {
-                name,
-                attributes: Items::new(alloc),
-            },
-        )
+        if is_blank(run) {
+            return Ok(());
+        }
+        let text = text_of(alloc, run)?;
+        self.leaf(alloc, Kind::Words { text })
     }
 
-    fn tag(&mut self, alloc: Global, tag: Tag, name: &[u8]) -> Result<(), XmlError>
-        requires { IsUtf8 name.now }
-        ensures { Steps result (adds_node (Mark tag name.now)) (state_of self.old) (state_of self.new) (place_all (state_of self.old) (tag_brackets tag name.now)) }
+    fn open(&mut self, alloc: Global, empty: bool, kind: Kind) -> Result<(), XmlError>
+        ensures { Steps result true (state_of self.old) (state_of self.new) (open_step (state_of self.old) empty kind) }
     {
-        match tag {
-            Tag::Open => self.open(alloc, name),
-            Tag::Empty => {
-                self.open(alloc, name)?;
-                self.end(alloc, name)
-            }
-            Tag::Close => self.end(alloc, name),
+        if empty {
+            self.leaf(alloc, kind)
+        } else {
+            self.begin(alloc, kind)
         }
     }
 
-    /// Takes the next lexeme in.
-    pub fn step(&mut self, alloc: Global, lexeme: Lexeme<'_>) -> Result<(), XmlError>
-        requires { IsUtf8 (held (span_of lexeme)) }
-        ensures { Steps result (adds_node (span_of lexeme.entry)) (state_of self.old) (state_of self.new) (span_step (state_of self.old) (span_of lexeme.entry)) }
+    /// A start tag behind these characters.
+    pub fn start(
+        &mut self,
+        alloc: Global,
+        run: &str,
+        empty: bool,
+        kind: Kind,
+    ) -> Result<(), XmlError>
+        ensures { Places result (state_of self.old) (state_of self.new) (start_step (state_of self.old) (chars run.now) empty kind) }
     {
-        match lexeme {
-            Lexeme::Tagged(tag, name) => self.tag(alloc, tag, name),
-            Lexeme::Run(text) => self.text(alloc, text),
-        }
+        self.text(alloc, run)?;
+        self.open(alloc, empty, kind)
     }
 
-    pub fn finish(self) -> Option<Plain>
+    /// An end tag behind these characters.
+    pub fn finish_element(&mut self, alloc: Global, run: &str, name: &Text) -> Result<(), XmlError>
+        ensures { Places result (state_of self.old) (state_of self.new) (end_step (state_of self.old) (chars run.now) name.now) }
+    {
+        self.text(alloc, run)?;
+        self.end(alloc, name)
+    }
+
+    /// The characters behind the last tag, and the tree, where all is closed.
+    pub fn finish(self, alloc: Global, run: &str) -> Result<Plain, XmlError>
+        ensures { Finishes result (state_of self) (finish_step (state_of self) (chars run.now)) }
+    {
+        let mut stack = self;
+        stack.text(alloc, run)?;
+        stack.into_whole().ok_or(XmlError::NotXml)
+    }
+
+    fn into_whole(self) -> Option<Plain>
         ensures { Ends result (finished (state_of self)) }
     {
         if self.frames.is_empty() {

@@ -1,3 +1,5 @@
+ghost use Rattle.std.specs.Prelude.{◌<◌, ◌^◌, length};
+
 use crate::{XmlError, read, write};
 use mm_tree::{Forest, Kind, Plain};
 use std::alloc::{AllocError, Global};
@@ -53,21 +55,87 @@ fn filled(alloc: Global, letters: usize) -> Result<String, AllocError> {
     Ok(text)
 }
 
+/// What each production takes.
 #[test]
-fn takes_elements_and_texts(rt: HostRuntime) {
+fn takes_elements(rt: HostRuntime) {
     for text in [
         "<a/>",
-        "<a></a>",
-        "<Ab9></Ab9>",
+        "<a></a >",
+        "<a ><b\n/></a>",
+        "<_:-.9\u{b7} a=\"b\" c = 'd'/>",
+        "<\u{e9}\u{300}/>",
+        "<a b='\"' c=\"'\"/>",
+        "<a b=\"]]>&lt;&#60;\"/>",
         "<a>b</a>",
-        "<a> \t\n</a>",
         "<a>b<c/>d</a>",
-        "<a>\"b\" = c; !/?}~</a>",
-        "<a><b>c</b><b></b></a>",
-        "a",
-        " a\n",
+        "<a>\u{e9}\u{10ffff}\u{7f}]] ></a>",
+        " \n<a/>\t",
+        "\u{feff}<a/>",
     ] {
         assert_eq!(rt; outcome(rt.alloc(), text), Answer::Tree, "at {text}");
+    }
+}
+
+#[test]
+fn takes_other_content(rt: HostRuntime) {
+    for text in [
+        "<a>&lt;&gt;&amp;&apos;&quot;</a>",
+        "<a>&#33;&#x21;&#x00000021;&#x1F600;&#x10fFFf;</a>",
+        "<a><![CDATA[]]></a>",
+        "<a><![CDATA[<&]]]]><![CDATA[>]]></a>",
+        "<a>]]<!---->></a>",
+        "<a>]]&#62;</a>",
+        "<!-- - --><a/><!---->",
+        "<?p?><a><?p ?b??></a><?xml-p ]]>?>",
+        "a",
+        " a\n<!-- b --><?p?>",
+        "<![CDATA[a]]>",
+        "&#x20;\u{a0}",
+    ] {
+        assert_eq!(rt; outcome(rt.alloc(), text), Answer::Tree, "at {text}");
+    }
+}
+
+/// XML declarations, and document types behind them.
+#[test]
+fn takes_declarations(rt: HostRuntime) {
+    for text in [
+        "<?xml version=\"1.0\"?><a/>",
+        "<?xml\n version = '1.05' ?>\n<a/>",
+        "<?xml version=\"1.0\" encoding='utf-8'?><a/>",
+        "<?xml version=\"1.0\" encoding=\"UTF-8\" standalone=\"yes\"?><a/>",
+        "<?xml version=\"1.0\" standalone = 'no' ?><!--b--><a/>",
+        "\u{feff}<?xml version=\"1.0\"?><a/>",
+        "<?xml version=\"1.0\"?>\r\n<!DOCTYPE a>\r\n<a/>",
+        "<?xml-model?><a/>",
+    ] {
+        assert_eq!(rt; outcome(rt.alloc(), text), Answer::Tree, "at {text}");
+    }
+}
+
+#[test]
+fn refuses_declarations(rt: HostRuntime) {
+    for text in [
+        "<?xml?><a/>",
+        "<?xml ?><a/>",
+        "<?xml version='2.0'?><a/>",
+        "<?xml version='1.'?><a/>",
+        "<?xml version='1.0\"?><a/>",
+        "<?xml version='1.0'><a/>",
+        "<?xml version='1.0'encoding='UTF-8'?><a/>",
+        "<?xml version='1.0' encoding='UTF-16'?><a/>",
+        "<?xml version='1.0' standalone='maybe'?><a/>",
+        "<?xml version='1.0' standalone='no' encoding='UTF-8'?><a/>",
+        "<?xml encoding='UTF-8'?><a/>",
+        "<?XML version='1.0'?><a/>",
+        " <?xml version='1.0'?><a/>",
+        "<!--b--><?xml version='1.0'?><a/>",
+        "<?xml version='1.0'?><?xml version='1.0'?><a/>",
+        "<a><?xml version='1.0'?></a>",
+        "<?xml version='1.0'?>b",
+        "<?xml version='1.0'?>",
+    ] {
+        assert_eq!(rt; outcome(rt.alloc(), text), Answer::NotXml, "at {text}");
     }
 }
 
@@ -76,7 +144,6 @@ fn refuses_what_is_no_element(rt: HostRuntime) {
     for text in [
         "",
         " ",
-        "a]",
         "<",
         "<a",
         "<a/",
@@ -88,37 +155,101 @@ fn refuses_what_is_no_element(rt: HostRuntime) {
         "<a></b>",
         "<a><b></a></b>",
         "<a/><b/>",
-        "<a/> ",
-        " <a/>",
         "<a/>b",
+        "b<a/>",
+        "\u{feff}\u{feff}<a/>",
     ] {
         assert_eq!(rt; outcome(rt.alloc(), text), Answer::NotXml, "at {text}");
     }
 }
 
 #[test]
-fn refuses_other_tags_and_characters(rt: HostRuntime) {
+fn refuses_tags_and_attributes(rt: HostRuntime) {
     for text in [
         "</>",
         "<1/>",
-        "<a-b/>",
-        "<a:b/>",
+        "<-a/>",
         "< a/>",
-        "<a />",
         "<a/ >",
-        "<a></a >",
-        "<a b=\"c\"/>",
-        "<a>&lt;</a>",
-        "<a>></a>",
-        "<a>]</a>",
-        "<a>\r</a>",
-        "<a>\u{7f}</a>",
-        "<a>\u{e9}</a>",
-        "<!-- --><a/>",
-        "<?p?><a/>",
-        "<a><![CDATA[b]]></a>",
+        "<a\u{d7}/>",
+        "<a></ a>",
+        "<a b/>",
+        "<a b=c/>",
+        "<a b=\"c'/>",
+        "<a b=\"<\"/>",
+        "<a b=\"&\"/>",
+        "<a b=\"c\"d=\"e\"/>",
+        "<a b=\"c\" b=\"d\"/>",
+        "<a>\u{1}</a>",
+        "<a>\u{ffff}</a>",
     ] {
         assert_eq!(rt; outcome(rt.alloc(), text), Answer::NotXml, "at {text}");
+    }
+}
+
+#[test]
+fn refuses_other_content(rt: HostRuntime) {
+    for text in [
+        "<a>]]></a>",
+        "]]>",
+        "<a>&b;</a>",
+        "<a>&lt</a>",
+        "<a>&#;</a>",
+        "<a>&#x;</a>",
+        "<a>&#0;</a>",
+        "<a>&#xD800;</a>",
+        "<a>&#1114112;</a>",
+        "<a>&#99999999999999999999;</a>",
+        "<a><!-- -- --></a>",
+        "<a><!-- ---></a>",
+        "<a><![CDATA[</a>",
+        "<?xmL p?><a/>",
+        "<a><?1?></a>",
+        "<?p",
+        "&#32;<a/>",
+        "<a/><![CDATA[]]>",
+    ] {
+        assert_eq!(rt; outcome(rt.alloc(), text), Answer::NotXml, "at {text}");
+    }
+}
+
+#[test]
+fn takes_document_types(rt: HostRuntime) {
+    for text in [
+        "<!DOCTYPE a><a/>",
+        "<!DOCTYPE\n_b SYSTEM 'b.dtd' ><a/>",
+        "<!-- --><!DOCTYPE a PUBLIC \"-//W3C//DTD a'\" \"<>\"><?p?><a/>",
+        " <!DOCTYPE SYSTEM><a/>",
+    ] {
+        assert_eq!(rt; outcome(rt.alloc(), text), Answer::Tree, "at {text}");
+    }
+}
+
+#[test]
+fn refuses_document_types(rt: HostRuntime) {
+    for text in [
+        "<!DOCTYPE><a/>",
+        "<!DOCTYPEa><a/>",
+        "<!doctype a><a/>",
+        "<!DOCTYPE a []><a/>",
+        "<!DOCTYPE a SYSTEM b><a/>",
+        "<!DOCTYPE a SYSTEM'b'><a/>",
+        "<!DOCTYPE a PUBLIC 'b'><a/>",
+        "<!DOCTYPE a PUBLIC '{' 'b'><a/>",
+        "<!DOCTYPE a><!DOCTYPE a><a/>",
+        "<a/><!DOCTYPE a>",
+        "<a><!DOCTYPE a></a>",
+        "<!DOCTYPE a>b",
+    ] {
+        assert_eq!(rt; outcome(rt.alloc(), text), Answer::NotXml, "at {text}");
+    }
+}
+
+#[test]
+fn refuses_bytes_that_are_no_text(rt: HostRuntime) {
+    for bytes in [b"<a>\xff</a>".as_slice(), b"\xc3", b"\xed\xa0\x80"] {
+        let answer = read(rt.alloc(), bytes);
+        assert!(rt; matches!(answer, Err(XmlError::NotXml)));
     }
 }
 
@@ -191,14 +322,51 @@ fn gives_the_tree(rt: HostRuntime) -> Result<(), Fail> {
     Ok(())
 }
 
-#[test]
-fn writes_the_tree(rt: HostRuntime) -> Result<(), Fail> {
-    let tree = read(rt.alloc(), b"<a> <b></b> \"x\"\ny <c>z</c></a>")?;
-    let mut forest = Forest::new(rt.alloc());
-    forest.load(rt.alloc(), tree)?;
+/// What is read, written again: read by `Forest::load`, since only a labelled tree can be written.
+fn again(alloc: Global, bytes: &[u8]) -> Result<Vec<u8>, Fail>
+    requires { length bytes.now < 2 ^ 32 }
+{
+    let tree = read(alloc, bytes)?;
+    let mut forest = Forest::new(alloc);
+    forest.load(alloc, tree)?;
     let root = forest.trees().first().ok_or("a tree")?;
-    let bytes = write(rt.alloc(), root)?;
-    let want = b"<a><b/> \"x\"&#10;y <c>z</c></a>";
-    assert_eq!(rt; bytes.as_slice(), want.as_slice());
+    Ok(write(alloc, root)?)
+}
+
+#[test]
+fn writes_one_line(rt: HostRuntime) -> Result<(), Fail> {
+    let bytes =
+        b"<!-- made by hand -->\n<note xml:lang=\"en\">Tom <![CDATA[& ]]>Jerry&#x21;<?p q?> <b/></note>";
+    let want = b"<note xml:lang=\"en\">Tom &amp; Jerry! <b/></note>";
+    let written = again(rt.alloc(), bytes)?;
+    assert_eq!(rt; written.as_slice(), want.as_slice());
+    Ok(())
+}
+
+#[test]
+fn turns_ends_of_lines(rt: HostRuntime) -> Result<(), Fail> {
+    let bytes = b"<a b='\t\"\r\n&#9;&#13;<!' c=''>x\r\n\ry&#13;</a>";
+    assert!(rt; matches!(read(rt.alloc(), bytes), Err(XmlError::NotXml)));
+    let bytes = b"<a b='\t\"\r\n&#9;&#13;' c=''>x\r\n\ry&#13;</a>";
+    let want = b"<a b=\" &quot; &#9;&#13;\" c=\"\">x&#10;&#10;y&#13;</a>";
+    let written = again(rt.alloc(), bytes)?;
+    assert_eq!(rt; written.as_slice(), want.as_slice());
+    Ok(())
+}
+
+/// An element with so many attributes of different names.
+fn wide(alloc: Global, count: u32) -> Result<String, AllocError> {
+    let mut text = String::from_str(alloc, "<a")?;
+    for i in 0..count {
+        text.push_str(format!(in alloc; " a{i}=''")?.as_str())?;
+    }
+    text.push_str("/>")?;
+    Ok(text)
+}
+
+#[test]
+fn takes_many_attributes(rt: HostRuntime) -> Result<(), Fail> {
+    let text = wide(rt.alloc(), 100_000)?;
+    assert_eq!(rt; outcome(rt.alloc(), text.as_str()), Answer::Tree);
     Ok(())
 }

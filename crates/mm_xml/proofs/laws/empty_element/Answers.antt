@@ -1,5 +1,5 @@
-use Rattle.mm_xml.proofs.Productions as productions
+use Rattle.mm_xml.proofs.Elements as elements
 use Rattle.mm_xml.proofs.laws.empty_element.Goals as goal
 
 pub returns : goal.returns
-returns c = λ name h. productions.empty_element name h
+returns c = λ name gap attributes is plain. elements.empty_element name gap attributes is plain
