@@ -7,7 +7,7 @@ use Rattle.std.specs.Str.{bytes_eq, is_utf8}
 use Rattle.std.specs.Io.BufRead.{strip_last}
 use Rattle.mm_tree.specs.declared.forest.place.Place.{Place}
 use Rattle.mm_tree.specs.declared.forest.place.Place.TheVariants.{Before, After, First, Last}
-use Rattle.mm_command.specs.declared.line.Find.TheVariants.{Slca}
+use Rattle.mm_command.specs.declared.line.Find.TheVariants.{Slca, Elca, Maxmatch, MaxmatchElca}
 use Rattle.mm_command.specs.declared.line.Line.{Line}
 use Rattle.mm_command.specs.declared.line.Line.TheVariants.{Blank, Load, Insert, Delete, Replace, Search, Show, Quit}
 use Rattle.mm_command.specs.declared.line.LineError.{LineError}
@@ -81,6 +81,9 @@ line_by word rest =
     else if bytes_eq word (codes "delete") then option_map Delete (one_word rest)
     else if bytes_eq word (codes "replace") then option_map Replace (one_word rest)
     else if bytes_eq word (codes "slca") then Some (Search Slca rest)
+    else if bytes_eq word (codes "elca") then Some (Search Elca rest)
+    else if bytes_eq word (codes "maxmatch") then Some (Search Maxmatch rest)
+    else if bytes_eq word (codes "maxmatch-elca") then Some (Search MaxmatchElca rest)
     else if bytes_eq word (codes "show") then option_map Show (one_word rest)
     else if bytes_eq word (codes "quit") then alone Quit rest
     else None

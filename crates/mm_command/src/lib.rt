@@ -1,6 +1,7 @@
 //! Command lines and replies: what a line asks for, and how an answer is written.
 #![tactic(auto)]
 
+mod fragments;
 mod line;
 mod reading;
 mod reply;

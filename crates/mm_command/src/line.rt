@@ -10,6 +10,12 @@ use thiserror::Error;
 pub enum Find {
     /// The smallest lowest common ancestors.
     Slca,
+    /// The exclusive lowest common ancestors.
+    Elca,
+    /// The fragments of the smallest lowest common ancestors.
+    Maxmatch,
+    /// The fragments of the exclusive lowest common ancestors.
+    MaxmatchElca,
 }
 
 /// A command line. A label is any word; whether it is a label's text is looked at when the command is

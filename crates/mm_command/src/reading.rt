@@ -1,5 +1,6 @@
 // Reading a command line.
-ghost use Rattle.std.specs.Prelude.{◌≡◌, IsTrue};
+ghost use Rattle.std.specs.Prelude.{◌≡◌, IsTrue, Some};
+ghost use Rattle.mm_command.specs.declared.line.Line.TheVariants.{Search};
 ghost use Rattle.std.specs.Io.BufRead.{strip_last};
 ghost use Rattle.std.specs.List.{list_all};
 ghost use Rattle.mm_command.specs.Lines.{after_spaces, before_spaces, is_printable, first_word, behind, place_of, one_word, alone, insert_line, line_by, line_of_text, line_of, Gives};
@@ -106,6 +107,13 @@ fn insert_line(alloc: Global, rest: &str) -> Result<Line, LineError>
     }
 }
 
+fn search_line(alloc: Global, find: Find, text: &str) -> Result<Line, LineError>
+    ensures { Gives result (Some (Search find text.now)) }
+{
+    let text = Text::from_str(alloc, text)?;
+    Ok(Line::Search { find, text })
+}
+
 /// The line of a first word and what stands behind it.
 fn line_by(alloc: Global, word: &str, rest: &str) -> Result<Line, LineError>
     ensures { Gives result (line_by word.now rest.now) }
@@ -120,10 +128,10 @@ fn line_by(alloc: Global, word: &str, rest: &str) -> Result<Line, LineError>
         "replace" => Ok(Line::Replace {
             label: one_word(alloc, rest)?,
         }),
-        "slca" => Ok(Line::Search {
-            find: Find::Slca,
-            text: Text::from_str(alloc, rest)?,
-        }),
+        "slca" => search_line(alloc, Find::Slca, rest),
+        "elca" => search_line(alloc, Find::Elca, rest),
+        "maxmatch" => search_line(alloc, Find::Maxmatch, rest),
+        "maxmatch-elca" => search_line(alloc, Find::MaxmatchElca, rest),
         "show" => Ok(Line::Show {
             label: one_word(alloc, rest)?,
         }),

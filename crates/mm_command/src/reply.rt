@@ -4,7 +4,8 @@ ghost use Rattle.std.specs.List.{flat_map};
 ghost use Rattle.mm_tree.specs.Numbering.{node_of};
 ghost use Rattle.mm_command.specs.Replies.{refused_text, done_text, tree_text, hit_line, hits_text, reply_text};
 
-use mm_tree::{Done, Hit, Hits, Node, Refusal};
+use crate::fragments::fragments_reply;
+use mm_tree::{Done, Fragments, Hit, Hits, Node, Refusal};
 use mm_xml::write;
 use std::alloc::{AllocError, Global};
 
@@ -15,6 +16,8 @@ pub enum Reply {
     Done(Done),
     /// A search found these.
     Hits(Hits),
+    /// A search for fragments found these.
+    Fragments(Fragments),
     /// The node that was asked for.
     Tree(Node),
     Refused(Refusal),
@@ -90,6 +93,7 @@ pub fn write_reply(alloc: Global, reply: &Reply) -> Result<Vec<u8>, AllocError>
     match reply {
         Reply::Done(done) => done_reply(alloc, done),
         Reply::Hits(hits) => hits_reply(alloc, hits.as_slice()),
+        Reply::Fragments(fragments) => fragments_reply(alloc, fragments.as_slice()),
         Reply::Tree(node) => tree_reply(alloc, node),
         Reply::Refused(refusal) => refused_reply(alloc, *refusal),
     }

@@ -15,6 +15,9 @@ struct Asked {
 fn form_of(find: Find) -> &'static str {
     match find {
         Find::Slca => "slca",
+        Find::Elca => "elca",
+        Find::Maxmatch => "maxmatch",
+        Find::MaxmatchElca => "maxmatch-elca",
     }
 }
 
@@ -103,6 +106,12 @@ fn lines_are_read(rt: HostRuntime) -> Result<(), Fail> {
         (b"slca \xC3", "nothing", ""),
         (b"slca a\x7F", "nothing", ""),
         (b"slca<author", "nothing", ""),
+        (b"elca xml liu", "elca", "xml liu"),
+        (b"elcas xml", "nothing", ""),
+        (b"maxmatch bears gold pos", "maxmatch", "bears gold pos"),
+        (b"maxmatch-elca xml", "maxmatch-elca", "xml"),
+        (b"maxmatch elca xml", "maxmatch", "elca xml"),
+        (b"maxmatch -elca", "maxmatch", "-elca"),
         (b"quit ", "quit", ""),
         (b"quit now", "nothing", ""),
     ];

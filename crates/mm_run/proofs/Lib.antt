@@ -11,3 +11,4 @@ pub mod Turns
 pub mod Spending
 pub mod Telling
 pub mod OneReply
+pub mod Shown

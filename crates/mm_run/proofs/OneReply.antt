@@ -11,7 +11,7 @@ use Rattle.mm_command.specs.declared.line.Line.TheVariants as line
 use Rattle.mm_run.specs.Forms.{Form}
 use Rattle.mm_run.specs.declared.command.Payload.{Payload}
 use Rattle.mm_run.specs.declared.command.Payload.TheVariants as payload
-use Rattle.mm_run.specs.Answers.{Refuses, Shows, AnswersEdit, RefusesFirst, Planned, planned_load, planned_insert, planned_replace, tree_refusal, AnswersBytes, AnswersLabel, AnswersLoad, AnswersInsert, AnswersReplace, AnswersDelete, AnswersFound, AnswersShow, answers, AnswersQuery, AnswersLine, AnswersForm, Answers, Replies}
+use Rattle.mm_run.specs.Answers.{Refuses, Shows, AnswersEdit, RefusesFirst, Planned, planned_load, planned_insert, planned_replace, tree_refusal, AnswersBytes, AnswersLabel, AnswersLoad, AnswersInsert, AnswersReplace, AnswersDelete, AnswersFound, AnswersShow, roots, found_text, AnswersQuery, AnswersLine, AnswersForm, Answers, Replies}
 use Rattle.mm_label.specs.Label.{IsLabel}
 use Rattle.mm_label.specs.Text.{text_of}
 use Rattle.mm_words.specs.Words.{query_words}
@@ -46,12 +46,12 @@ found-once : (found : Option (Tree Labelled)) (forest : Trees Labelled) (r s : L
 found-once None forest r s f g a b = refuses-once a b
 found-once (Some t) forest r s f g a b = shows-once a b
 
-query-once : (why : Option QueryError) (labels : List (List ℤ)) (forest : Trees Labelled) (r s : List ℕ) (f g : Trees Labelled) → AnswersQuery why labels forest r f → AnswersQuery why labels forest s g → Same r s f g
-query-once None labels forest r s f g a b = shows-once a b
-query-once (Some query.NoWords) labels forest r s f g a b = refuses-once a b
-query-once (Some (query.TooMany found)) labels forest r s f g a b = refuses-once a b
-query-once (Some (query.TooLong bytes)) labels forest r s f g a b = refuses-once a b
-query-once (Some query.Memory) labels forest r s f g a b = absurd a
+query-once : (why : Option QueryError) (text : List ℕ) (forest : Trees Labelled) (r s : List ℕ) (f g : Trees Labelled) → AnswersQuery why text forest r f → AnswersQuery why text forest s g → Same r s f g
+query-once None text forest r s f g a b = shows-once a b
+query-once (Some query.NoWords) text forest r s f g a b = refuses-once a b
+query-once (Some (query.TooMany found)) text forest r s f g a b = refuses-once a b
+query-once (Some (query.TooLong bytes)) text forest r s f g a b = refuses-once a b
+query-once (Some query.Memory) text forest r s f g a b = absurd a
 
 module _ (one_tree : (bytes : List ℕ) (t u : Tree Kind) → Spells bytes t → Spells bytes u → t ≡ u)
     (one_text : (a b : List ℤ) → IsLabel a → IsLabel b → text_of a ≡ text_of b → a ≡ b) where
@@ -111,7 +111,7 @@ module _ (one_tree : (bytes : List ℕ) (t u : Tree Kind) → Spells bytes t →
   line-once (line.Insert place label) p forest r s f g a b = insert-once place label p forest r s f g a b
   line-once (line.Delete label) p forest r s f g a b = delete-once label forest r s f g a b
   line-once (line.Replace label) p forest r s f g a b = replace-once label p forest r s f g a b
-  line-once (line.Search find text) p forest r s f g a b = query-once (query_refusal (query_words text)) (answers find (query_words text) forest) forest r s f g a b
+  line-once (line.Search find text) p forest r s f g a b = query-once (query_refusal (query_words text)) (found_text find (query_words text) forest (roots find (query_words text) forest)) forest r s f g a b
   line-once (line.Show label) p forest r s f g a b = show-once label forest r s f g a b
   line-once line.Quit p forest r s f g a b = shows-once a b
 

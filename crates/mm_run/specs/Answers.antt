@@ -1,6 +1,7 @@
 -- What commands are answered, and the forests after them.
 use Rattle.std.specs.Prelude.{◌≡◌, ℕ, ℤ, if◌then◌else◌, ◌&&◌, not, nat_le, List, [], ◌∷◌, ◌++◌, Some, None, ◌⊎◌}
 use Rattle.std.specs.declared.option.Option.{Option}
+use Rattle.std.specs.List.{flat_map}
 use Rattle.mm_label.specs.Label.{IsLabel}
 use Rattle.mm_label.specs.Text.{text_of, IsNoLabelText}
 use Rattle.mm_words.specs.Words.{query_words}
@@ -16,13 +17,16 @@ use Rattle.mm_tree.specs.Numbering.{Labelled}
 use Rattle.mm_tree.specs.Forests.{next_label, load, load_refusal}
 use Rattle.mm_tree.specs.Edits.{found, has, is_inside, is_text, subtree_size, inserted_label, insert, insert_refusal, delete, delete_refusal, replace, replace_refusal}
 use Rattle.mm_tree.specs.Search.{worded, slca}
+use Rattle.mm_tree.specs.Elca.{elca}
 use Rattle.mm_tree.specs.Hits.{hits_of}
+use Rattle.mm_tree.specs.Fragments.{Named, fragment}
+use Rattle.mm_fragment.specs.Showing.{named_in}
 use Rattle.mm_xml.specs.Grammar.{Spells}
 use Rattle.mm_command.specs.declared.line.Line.{Line}
 use Rattle.mm_command.specs.declared.line.Line.TheVariants as line
 use Rattle.mm_command.specs.declared.line.Find.{Find}
 use Rattle.mm_command.specs.declared.line.Find.TheVariants as find
-use Rattle.mm_command.specs.Replies.{refused_text, done_text, hits_text, tree_text, told}
+use Rattle.mm_command.specs.Replies.{refused_text, done_text, hits_text, fragments_text, tree_text, told}
 use Rattle.mm_run.specs.Forms.{Form}
 use Rattle.mm_run.specs.declared.command.Command.{Command}
 use Rattle.mm_run.specs.declared.command.Payload.{Payload}
@@ -148,20 +152,39 @@ AnswersFound (Some t) forest reply after = Shows forest (tree_text t) reply afte
 abbrev pub AnswersShow : List ℕ → Trees Labelled → List ℕ → Trees Labelled → Type 0
 AnswersShow text forest reply after = AnswersLabel text (λ x. AnswersFound (found x forest) forest reply after) (Refuses forest refusal.Label reply after)
 
--- the labels that a search finds
-abbrev pub answers : Find → List (List ℕ) → Trees Labelled → List (List ℤ)
-answers find.Slca query forest = slca query (worded forest)
+-- the labels of the nodes that a search finds, or whose fragments it finds
+abbrev pub roots : Find → List (List ℕ) → Trees Labelled → List (List ℤ)
+roots find.Slca query forest = slca query (worded forest)
+roots find.Elca query forest = elca query (worded forest)
+roots find.Maxmatch query forest = slca query (worded forest)
+roots find.MaxmatchElca query forest = elca query (worded forest)
+
+-- the fragment of the node that has a label, if there is one
+abbrev pub fragment_at : List (List ℕ) → Option (Tree Labelled) → List (Tree Named)
+fragment_at query None = []
+fragment_at query (Some t) = fragment query (named_in t) ∷ []
+
+abbrev pub fragments_of : List (List ℕ) → Trees Labelled → List (List ℤ) → List (Tree Named)
+fragments_of query forest labels = flat_map (λ x. fragment_at query (found x forest)) labels
+
+-- what a search finds: nodes, or fragments of nodes
+abbrev pub found_text : Find → List (List ℕ) → Trees Labelled → List (List ℤ) → List ℕ
+found_text find.Slca query forest labels = hits_text (hits_of forest labels)
+found_text find.Elca query forest labels = hits_text (hits_of forest labels)
+found_text find.Maxmatch query forest labels = fragments_text (fragments_of query forest labels)
+found_text find.MaxmatchElca query forest labels = fragments_text (fragments_of query forest labels)
 
 -- A search whose words are a query, or aren't.
-abbrev pub AnswersQuery : Option QueryError → List (List ℤ) → Trees Labelled → List ℕ → Trees Labelled → Type 0
-AnswersQuery None labels forest reply after = Shows forest (hits_text (hits_of forest labels)) reply after
-AnswersQuery (Some query.NoWords) labels forest reply after = Refuses forest refusal.Words reply after
-AnswersQuery (Some (query.TooMany found)) labels forest reply after = Refuses forest refusal.Many reply after
-AnswersQuery (Some (query.TooLong bytes)) labels forest reply after = Refuses forest refusal.Long reply after
-AnswersQuery (Some query.Memory) labels forest reply after = ⊥
+abbrev pub AnswersQuery : Option QueryError → List ℕ → Trees Labelled → List ℕ → Trees Labelled → Type 0
+AnswersQuery None text forest reply after = Shows forest text reply after
+AnswersQuery (Some query.NoWords) text forest reply after = Refuses forest refusal.Words reply after
+AnswersQuery (Some (query.TooMany found)) text forest reply after = Refuses forest refusal.Many reply after
+AnswersQuery (Some (query.TooLong bytes)) text forest reply after = Refuses forest refusal.Long reply after
+AnswersQuery (Some query.Memory) text forest reply after = ⊥
 
 abbrev pub AnswersSearch : Find → List ℕ → Trees Labelled → List ℕ → Trees Labelled → Type 0
-AnswersSearch find text forest reply after = AnswersQuery (query_refusal (query_words text)) (answers find (query_words text) forest) forest reply after
+AnswersSearch find text forest reply after =
+    AnswersQuery (query_refusal (query_words text)) (found_text find (query_words text) forest (roots find (query_words text) forest)) forest reply after
 
 -- What a line with its payload is answered.
 abbrev pub AnswersLine : Line → Payload → Trees Labelled → List ℕ → Trees Labelled → Type 0

@@ -7,5 +7,6 @@ pub mod Input
 pub mod Step
 pub mod Answers
 pub mod Edits
+pub mod Told
 pub mod Steps
 pub mod Run

@@ -1,19 +1,30 @@
 // Searches.
-ghost use Rattle.std.specs.Prelude.{◌≡◌, ◌≤◌, ◌+◌, IfOk};
-ghost use Rattle.mm_tree.specs.Numbering.{forest_of};
+ghost use Rattle.std.specs.Prelude.{◌≡◌, ◌≤◌, ◌+◌, ◌++◌, ◌↔◌, IfErr, IfOk, OnOk, IsTrue, map};
+ghost use Rattle.mm_tree.specs.Trees.{Trees};
+ghost use Rattle.mm_tree.specs.Forests.{is_well_formed};
+ghost use Rattle.mm_tree.specs.Numbering.{Labelled, forest_of};
+ghost use Rattle.mm_tree.specs.Edits.{found};
 ghost use Rattle.mm_tree.specs.Hits.{name_at, hits_of};
-ghost use Rattle.mm_run.specs.Answers.{answers, AnswersSearch};
-ghost use Rattle.mm_run.specs.Steps.{find_cost, search_cost};
+ghost use Rattle.mm_tree.specs.Fragments.{fragment_tree};
+ghost use Rattle.mm_lists.specs.Causes.{Caused, IsSound};
+ghost use Rattle.mm_command.specs.Replies.{reply_text};
+ghost use Rattle.mm_run.specs.Answers.{AnswersSearch, fragment_at, fragments_of, found_text, roots};
+ghost use Rattle.mm_run.specs.Steps.{find_cost, fragment_cost, fragments_cost, roots_cost, search_cost};
+ghost use Rattle.mm_run.specs.Told.{AreTold};
 
 use crate::editing::refuse;
 use mm_command::{Find, Reply, write_reply};
+use mm_elca::answers as elca;
+use mm_fragment::fragment;
+use mm_fragment::laws::answers_tell;
 use mm_host::Fault;
 use mm_label::Label;
 use mm_list::Items;
-use mm_lists::MemLists;
+use mm_lists::{Lists, MemLists};
 use mm_slca::answers as slca;
 use mm_steps::Steps;
-use mm_tree::{Forest, Hit, Hits, Refusal, Text};
+use mm_tree::laws::{answers_are_smallest, exclusive_answers};
+use mm_tree::{Forest, Fragments, Hit, Hits, Refusal, Text};
 use mm_words::calls::query;
 use mm_words::{Query, QueryError};
 use std::alloc::{AllocError, Global};
@@ -43,24 +54,130 @@ fn hits_of(alloc: Global, forest: &Forest, labels: &[Label]) -> Result<Hits, All
     Ok(hits)
 }
 
-/// The labels that a search finds.
-fn answers<L: Ledger>(
+/// Puts the fragment of the node that has the label behind the others; nothing where no node has it.
+fn push_fragment<X: Lists, L: Ledger>(
+    alloc: Global,
+    forest: &Forest,
+    root: &Label,
+    labels: &[Label],
+    query: &Query,
+    fragments: &mut Fragments,
+    lists: &mut X,
+    steps: &mut Steps<L>,
+) -> Result<(), Fault>
+    ensures value { X.stands lists.old (forest_of forest.now) → AreTold query.now (forest_of forest.now) labels.now
+        → OnOk result (map fragment_tree fragments.new ≡ map fragment_tree fragments.old ++ fragment_at query.now (found root.now (forest_of forest.now))) }
+    ensures kept { (f : Trees Labelled) → X.stands lists.old f ↔ X.stands lists.new f }
+    ensures cause { Caused (X.fault_count lists.old) (X.fault_count lists.new) (X.spent lists.old) (X.spent lists.new) result }
+    ensures sound { (f : Trees Labelled) → X.stands lists.old f → IfErr result IsSound }
+    ensures cost { X.stands lists.old (forest_of forest.now) → AreTold query.now (forest_of forest.now) labels.now
+        → steps.new ≤ steps.old + fragment_cost query.now (found root.now (forest_of forest.now)) }
+{
+    if forest.find(root).is_none() {
+        return Ok(());
+    }
+    let fragment = fragment(alloc, forest, root, labels, query, lists, steps)?;
+    fragments.push(fragment)?;
+    Ok(())
+}
+
+/// The fragments of the nodes that have the labels, which are the answers of a search.
+fn fragments_of<X: Lists, L: Ledger>(
+    alloc: Global,
+    forest: &Forest,
+    labels: &[Label],
+    query: &Query,
+    lists: &mut X,
+    steps: &mut Steps<L>,
+) -> Result<Fragments, Fault>
+    ensures value { X.stands lists.old (forest_of forest.now) → AreTold query.now (forest_of forest.now) labels.now
+        → IfOk result (λ fs. map fragment_tree fs ≡ fragments_of query.now (forest_of forest.now) labels.now) }
+    ensures cause { Caused (X.fault_count lists.old) (X.fault_count lists.new) (X.spent lists.old) (X.spent lists.new) result }
+    ensures sound { (f : Trees Labelled) → X.stands lists.old f → IfErr result IsSound }
+    ensures cost { X.stands lists.old (forest_of forest.now) → AreTold query.now (forest_of forest.now) labels.now
+        → steps.new ≤ steps.old + fragments_cost query.now (forest_of forest.now) labels.now }
+{
+    let mut fragments = Items::new(alloc);
+    for root in labels {
+        push_fragment(
+            alloc,
+            forest,
+            root,
+            labels,
+            query,
+            &mut fragments,
+            lists,
+            steps,
+        )?;
+    }
+    Ok(fragments)
+}
+
+/// The labels of the nodes that a search finds, or whose fragments it finds.
+fn roots<X: Lists, L: Ledger>(
+    alloc: Global,
+    find: Find,
+    query: &Query,
+    lists: &mut X,
+    steps: &mut Steps<L>,
+) -> Result<Items<Label>, Fault>
+    ensures value { (f : Trees Labelled) → IsTrue (is_well_formed f) → X.stands lists.old f → IfOk result (λ labels. labels ≡ roots find query.now f) }
+    ensures kept { (f : Trees Labelled) → X.stands lists.old f ↔ X.stands lists.new f }
+    ensures cause { Caused (X.fault_count lists.old) (X.fault_count lists.new) (X.spent lists.old) (X.spent lists.new) result }
+    ensures sound { (f : Trees Labelled) → X.stands lists.old f → IfErr result IsSound }
+    ensures cost { (f : Trees Labelled) → X.stands lists.old f → steps.new ≤ steps.old + roots_cost find query.now f }
+{
+    match find {
+        Find::Slca | Find::Maxmatch => slca(alloc, query, lists, steps),
+        Find::Elca | Find::MaxmatchElca => elca(alloc, query, lists, steps),
+    }
+}
+
+/// The nodes that a search finds, or their fragments, as a reply.
+fn found<X: Lists, L: Ledger>(
+    alloc: Global,
+    forest: &Forest,
+    find: Find,
+    query: &Query,
+    lists: &mut X,
+    steps: &mut Steps<L>,
+) -> Result<Reply, Fault>
+    ensures value { X.stands lists.old (forest_of forest.now) → IfOk result (λ reply. reply_text reply ≡ found_text find query.now (forest_of forest.now) (roots find query.now (forest_of forest.now))) }
+    ensures cause { Caused (X.fault_count lists.old) (X.fault_count lists.new) (X.spent lists.old) (X.spent lists.new) result }
+    ensures sound { X.stands lists.old (forest_of forest.now) → IfErr result IsSound }
+    ensures cost { X.stands lists.old (forest_of forest.now) → steps.new ≤ steps.old + find_cost find query.now (forest_of forest.now) }
+{
+    answers_are_smallest();
+    exclusive_answers();
+    answers_tell();
+    let _ = forest.trees();
+    let labels = roots(alloc, find, query, lists, steps)?;
+    let labels = labels.as_slice();
+    match find {
+        Find::Slca | Find::Elca => Ok(Reply::Hits(hits_of(alloc, forest, labels)?)),
+        Find::Maxmatch | Find::MaxmatchElca => {
+            let fragments = fragments_of(alloc, forest, labels, query, lists, steps)?;
+            Ok(Reply::Fragments(fragments))
+        }
+    }
+}
+
+/// The reply of a search.
+fn search<L: Ledger>(
     alloc: Global,
     forest: &Forest,
     find: Find,
     query: &Query,
     steps: &mut Steps<L>,
-) -> Result<Items<Label>, AllocError>
-    ensures labels { IfOk result (λ labels. labels ≡ answers find query.now (forest_of forest.now)) }
+) -> Result<Vec<u8>, AllocError>
+    ensures reply { IfOk result (λ reply. reply.items ≡ found_text find query.now (forest_of forest.now) (roots find query.now (forest_of forest.now))) }
     ensures steps { steps.new ≤ steps.old + find_cost find query.now (forest_of forest.now) }
 {
     let mut lists = MemLists::of(alloc, forest)?;
-    match find {
-        Find::Slca => match slca(alloc, query, &mut lists, steps) {
-            Ok(labels) => Ok(labels),
-            Err(Fault::Memory) => Err(AllocError),
-            Err(Fault::DiskFault | Fault::Spent | Fault::Damaged(_)) => unreachable!(),
-        },
+    match found(alloc, forest, find, query, &mut lists, steps) {
+        Ok(reply) => write_reply(alloc, &reply),
+        Err(Fault::Memory) => Err(AllocError),
+        Err(Fault::DiskFault | Fault::Spent | Fault::Damaged(_)) => unreachable!(),
     }
 }
 
@@ -80,10 +197,6 @@ pub fn answer_search<L: Ledger>(
         Err(QueryError::TooMany { .. }) => refuse(alloc, Refusal::Many),
         Err(QueryError::TooLong { .. }) => refuse(alloc, Refusal::Long),
         Err(QueryError::Memory) => Err(AllocError),
-        Ok(query) => {
-            let labels = answers(alloc, forest, find, &query, steps)?;
-            let hits = hits_of(alloc, forest, labels.as_slice())?;
-            write_reply(alloc, &Reply::Hits(hits))
-        }
+        Ok(query) => search(alloc, forest, find, &query, steps),
     }
 }

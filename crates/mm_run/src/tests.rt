@@ -122,7 +122,8 @@ fn lines_and_payloads_are_answered(rt: HostRuntime) -> Result<(), Fail> {
         // A full stop in front is dropped, and a line of two doesn't end a payload.
         (b"load\n.<a>\n..\n</a>\n.\n", b"ok 1 2\n"),
         // The lines of a payload are joined by line feeds, with none at the end.
-        (b"load\n<a\n/>\n.\n", b"no 19 xml\n"),
+        (b"load\n<a\n/>\n.\n", b"ok 1 1\n"),
+        (b"load\n<\na/>\n.\n", b"no 19 xml\n"),
         (b"load\n.\n", b"no 19 xml\n"),
         // A text is no tree of a forest.
         (b"load\nagain\n.\n", b"no 20 top\n"),
@@ -322,6 +323,42 @@ fn smallest_answers_are_found(rt: HostRuntime) -> Result<(), Fail> {
 }
 
 #[test]
+fn exclusive_answers_are_found(rt: HostRuntime) -> Result<(), Fail> {
+    expect_replies(
+        &rt,
+        rt.alloc(),
+        &[(
+            b"load\n<bib><book>xml liu</book><note>xml</note><author>liu</author></bib>\n.\nelca xml liu\nslca xml liu\nelca absent liu\nelca\n",
+            1,
+        )],
+        b"ok 1 7\nhits 2\n1 bib\n1.1.1 #text\nhits 1\n1.1.1 #text\nhits 0\nno 14 words\n",
+    )?;
+    Ok(())
+}
+
+#[test]
+fn fragments_of_two_teams(rt: HostRuntime) -> Result<(), Fail> {
+    let table = [
+        (
+            b"load\n<team><name>Bears</name><players><player><name>Gold</name><pos>forward</pos></player><player><name>Miller</name><pos>guard</pos></player></players></team>\n.\nmaxmatch bears gold pos\n".as_slice(),
+            b"ok 1 14\nfragments 1\nfragment 1 8\n1 team\n1.1 name\n1.1.1 #text bears\n1.3 players\n1.3.1 player\n1.3.1.1 name\n1.3.1.1.1 #text gold\n1.3.1.3 pos pos\n".as_slice(),
+        ),
+        (
+            b"load\n<team><name>Bears</name><player><pos>guard</pos></player><player><pos>guard</pos></player></team>\n.\nmaxmatch bears pos\nmaxmatch bears absent\nmaxmatch ;\n",
+            b"ok 1 9\nfragments 1\nfragment 1 7\n1 team\n1.1 name\n1.1.1 #text bears\n1.3 player\n1.3.1 pos pos\n1.5 player\n1.5.1 pos pos\nfragments 0\nno 14 words\n",
+        ),
+        (
+            b"load\n<bib><book>xml liu</book><note>xml</note><author>liu</author></bib>\n.\nmaxmatch-elca xml liu\n",
+            b"ok 1 7\nfragments 2\nfragment 1 5\n1 bib\n1.3 note\n1.3.1 #text xml\n1.5 author\n1.5.1 #text liu\nfragment 1.1.1 1\n1.1.1 #text xml liu\n",
+        ),
+    ];
+    for (input, written) in table {
+        expect_replies(&rt, rt.alloc(), &[(input, 1)], written)?;
+    }
+    Ok(())
+}
+
+#[test]
 fn documents_are_searched_apart(rt: HostRuntime) -> Result<(), Fail> {
     expect_replies(
         &rt,
@@ -430,5 +467,53 @@ fn a_sink_fails_at_the_reply_of_a_search(rt: HostRuntime) -> Result<(), Fail> {
     let got = run_over(rt.alloc(), bytes, 0, &[], &[2])?;
     assert_eq!(rt; got.number, 3);
     assert_eq!(rt; got.written.as_slice(), b"ok 1 11\n".as_slice());
+    Ok(())
+}
+
+#[test]
+fn a_whole_document_is_read_written_and_searched(rt: HostRuntime) -> Result<(), Fail> {
+    let input =
+        b"load\n<?xml version=\"1.0\" encoding=\"UTF-8\"?>\n<!DOCTYPE note SYSTEM \"note.dtd\">\n<!-- made by hand -->\n<note xml:lang=\"en\">Tom <![CDATA[& ]]>Jerry&#x21;<?p q?> <b/></note>\n.\nshow 1\nslca jerry lang\n";
+    expect_replies(
+        &rt,
+        rt.alloc(),
+        &[(input, 1)],
+        b"ok 1 3\ntree 1 3\n<note xml:lang=\"en\">Tom &amp; Jerry! <b/></note>\nhits 1\n1 note\n",
+    )?;
+    Ok(())
+}
+
+/// The record with this number in a catalogue.
+fn record(alloc: Global, number: usize) -> Result<String, AllocError> {
+    format!(in alloc;
+        "<dc:record id=\"r{number}\"><dc:title xml:lang=\"de\">Straße {number} &amp; Café</dc:title><dc:creator>Müller, Jörg</dc:creator></dc:record>\n"
+    )
+}
+
+/// A load of a catalogue of so many records.
+fn catalogue(alloc: Global, records: usize) -> Result<Vec<u8>, AllocError> {
+    let mut bytes = Vec::from_slice(
+        alloc,
+        b"load\n<?xml version=\"1.0\" encoding=\"UTF-8\"?>\n<catalogue xmlns:dc=\"http://purl.org/dc/elements/1.1/\">\n",
+    )?;
+    for number in 0..records {
+        bytes.extend_from_slice(record(alloc, number)?.as_bytes())?;
+    }
+    bytes.extend_from_slice(b"</catalogue>\n.\n")?;
+    Ok(bytes)
+}
+
+#[test]
+fn a_catalogue_is_searched(rt: HostRuntime) -> Result<(), Fail> {
+    let mut input = catalogue(rt.alloc(), 2000)?;
+    input.extend_from_slice(
+        "slca strasse 1999\nslca r7 müller\nslca creator 0\nelca café 5\nmaxmatch de 12\n".as_bytes(),
+    )?;
+    let got = run_over(rt.alloc(), input, 0, &[], &[])?;
+    assert_eq!(rt; got.number, 0);
+    assert_eq!(rt;
+        got.written.as_slice(),
+        b"ok 1 10001\nhits 1\n1.3999.1.1 #text\nhits 1\n1.15 dc:record\nhits 1\n1.1 dc:record\nhits 1\n1.11.1.1 #text\nfragments 1\nfragment 1.25.1 2\n1.25.1 dc:title de\n1.25.1.1 #text 12\n".as_slice()
+    );
     Ok(())
 }
