@@ -32,7 +32,7 @@ token_len (Start empty name attributes gap) = omega arith
 token_len (Close name gap) = omega arith
 token_len (Doctype gap name ext after) = omega arith
 
-token_shorter : (cs : List ℕ) (x : Token × List ℕ) → token_at cs ≡ Some x → length x.1 < length cs
+pub token_shorter : (cs : List ℕ) (x : Token × List ℕ) → token_at cs ≡ Some x → length x.1 < length cs
 token_shorter cs x e = omega (arith, ap length (token_takes cs x e).parts, length-append (spelled x.0) x.1, token_len x.0)
 
 filled : (a b c d : List ℕ) → 0 < length d → 0 < length (a ++ (b ++ (c ++ d)))

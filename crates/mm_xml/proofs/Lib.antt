@@ -15,6 +15,9 @@ pub mod Seens
 pub mod NumberFacts
 pub mod Decoding
 pub mod OutlineFacts
+pub mod Ordinary
+pub mod Passages
+pub mod FindFacts
 pub mod BuildFacts
 pub mod Valid
 pub mod EncodingFacts

@@ -9,7 +9,7 @@ use Rattle.mm_tree.specs.declared.Kind.TheVariants.{Words}
 use Rattle.mm_tree.specs.Characters.{is_space}
 use Rattle.mm_tree.specs.Trees.{Tree}
 use Rattle.mm_xml.specs.Grammar.{Begin, End, name_of}
-use Rattle.mm_xml.specs.Lexing.{◌>>=◌, Found, token_at}
+use Rattle.mm_xml.specs.Lexing.{◌>>=◌, Found}
 use Rattle.mm_xml.specs.Telling.{Sign, Character, Named, Passage, Skipped, Opens, Closes, Doctyped, sign_at}
 use Rattle.mm_xml.specs.Machine.{Frame, State, Before, Inside, After, with_child, frame_tree, place, finished, cleared, leaf_at, text_step, open_step, start_step, end_step, finish_step, sign_step, Order, sign_may, sign_next, read_from, read_as}
 use Rattle.mm_xml.specs.Outlines.{Outlined, outlined, is_over, outline_begin, outline_end, outline_leaf, outline_text, outline_open, outline_start, outline_finish, outline_cleared, outline_step, outline_ends, holds, outline_from, outline_as}
@@ -110,7 +110,7 @@ then_found false o f g e = refl
 then_found true None f g e = refl
 then_found true (Some y) f g e = e y.0 y.1
 
-abbrev on_outline : ℕ → Outlined → Bool → Order → Sign × List ℕ → Bool
+abbrev pub on_outline : ℕ → Outlined → Bool → Order → Sign × List ℕ → Bool
 on_outline n o blank order x = sign_may order x.0 && holds (outline_step o blank x.0) (λ y. outline_from n y.0 y.1 (sign_next order x.0) x.1)
 
 abbrev pub on_state : ℕ → State → List ℕ → Order → Sign × List ℕ → Option (Tree Kind)
@@ -142,18 +142,10 @@ begins k o order cs enough e =
     ap (λ (x : Outlined). outline_from k x true order cs) e
     ∙ found_is k Before [] order cs ∙ ap (λ (t : Option (Tree Kind)). is_some t) (read_enough k (length cs) Before [] order cs enough (omega arith)) ∙ sym (found_is (length cs) Before [] order cs)
 
--- one lexeme further, the same is found
-pub goes_on : (k m : ℕ) (o o' : Outlined) (blank blank' b : Bool) (order order' : Order) (rest behind : List ℕ) (sign : Sign) → k ≡ suc m → sign_at rest ≡ Some (sign, behind) → b ≡ sign_may order sign → b ≡ true
-    → order' ≡ sign_next order sign → outline_step o blank sign ≡ Some (o', blank') → outline_from m o' blank' order' behind ≡ outline_from k o blank order rest
-unfolding token_at
-goes_on k m o o' blank blank' b order order' [] behind sign count found is may next moved = absurd cc
-goes_on k m o o' blank blank' b order order' (c ∷ cs) behind sign count found is may next moved =
-    ap (λ (x : Order). outline_from m o' blank' x behind) next
-    ∙ sym (ap (λ (n : ℕ). outline_from n o blank order (c ∷ cs)) count
-    ∙ ap (λ (x : Found Sign). holds x (λ x. on_outline m o blank order x)) found
-    ∙ ap (λ t. t && holds (outline_step o blank sign) (λ y. outline_from m y.0 y.1 (sign_next order sign) behind)) (sym is ∙ may)
-    ∙ ap (λ (x : Option (Outlined × Bool)). holds x (λ y. outline_from m y.0 y.1 (sign_next order sign) behind)) moved)
-
 pub finds_some : (r : Option (Lexeme × Bor (List ℕ))) (lexeme : Lexeme) (rest : Bor (List ℕ)) (found : Found Sign) → r ≡ Some (lexeme, rest) → Finds r found → found ≡ Some (sign_of lexeme, chars rest.now)
 finds_some None lexeme rest found e h = absurd cc
 finds_some (Some x) lexeme rest found e h = h ∙ ap (λ (y : Lexeme × Bor (List ℕ)). some (sign_of y.0, chars y.1.now)) (some_is x (lexeme, rest) e)
+
+pub finds_none : (r : Option (Lexeme × Bor (List ℕ))) (found : Found Sign) → r ≡ None → Finds r found → found ≡ None
+finds_none None found e h = h
+finds_none (Some x) found e h = absurd cc

@@ -23,7 +23,7 @@ Takes (Some x) cs = cs ≡ x.0 ∷ chars x.1.now
 abbrev pub sign_of : Lexeme → Sign
 sign_of (lexeme.Character c) = Character c
 sign_of (lexeme.Named c) = Named (c ∷ [])
-sign_of (lexeme.Section cs) = Passage (chars cs.now)
+sign_of (lexeme.Passage cs) = Passage (chars cs.now)
 sign_of lexeme.Skipped = Skipped
 sign_of (lexeme.Open empty name attributes) = Opens empty (Element name attributes)
 sign_of (lexeme.Close name) = Closes name

@@ -15,3 +15,4 @@ pub mod Answers
 pub mod Writing
 pub mod Pending
 pub mod Distinct
+pub mod Passages

@@ -5,7 +5,7 @@ ghost use Rattle.mm_xml.specs.Machine.{Before, sign_step, finish_step, read_as};
 ghost use Rattle.mm_xml.specs.Builds.{state_of, order_of, Advances, Finishes, Gives};
 
 use crate::error::XmlError;
-use crate::lexeme::{Lexeme, next_lexeme};
+use crate::lexeme::{Lexeme, next_passage};
 use crate::order::Order;
 use crate::stack::Stack;
 use crate::text::{clear, is_empty, push, push_all};
@@ -37,7 +37,7 @@ impl Builder {
         match lexeme {
             Lexeme::Character(c) => push(&mut self.run, c)?,
             Lexeme::Named(c) => push(&mut self.run, c)?,
-            Lexeme::Section(inner) => push_all(&mut self.run, inner)?,
+            Lexeme::Passage(inner) => push_all(&mut self.run, inner)?,
             Lexeme::Skipped => {}
             Lexeme::Doctype => {}
             Lexeme::Open(empty, name, attributes) => {
@@ -75,7 +75,7 @@ pub fn build(alloc: Global, order: Order, text: &str) -> Result<Plain, XmlError>
         if is_empty(rest) {
             break;
         }
-        let Some((lexeme, behind)) = next_lexeme(alloc, rest)? else {
+        let Some((lexeme, behind)) = next_passage(alloc, order.is_inside(), rest)? else {
             return Err(XmlError::NotXml);
         };
         if !order.accept(&lexeme) {

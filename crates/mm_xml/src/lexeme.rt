@@ -4,25 +4,25 @@ ghost use Rattle.mm_xml.specs.Letters.{lower as lower_is};
 ghost use Rattle.mm_xml.specs.Syntax.{is_reserved as reserved_is, is_rest as rest_is, letter_is};
 ghost use Rattle.mm_xml.specs.Lexing.{after as after_at, ending_at, start_at, close_at, comment_at, section_at, instruction_at, marked_at, markup_at, token_at};
 ghost use Rattle.mm_xml.specs.Telling.{tell, sign_at};
+ghost use Rattle.mm_xml.specs.Passages.{passage_at};
 ghost use Rattle.mm_xml.specs.Lexemes.{Finds, Gets, Skips};
 
 use crate::attribute::{are_distinct, attributes_of, is_name, is_short_name, text_of};
 use crate::doctype::after_doctype;
 use crate::letters::{are_chars, is_space, name_span, space_span};
-use crate::reference::{Part, part_of};
-use crate::text::{after, first, strip, up_to};
+use crate::reference::{Part, ordinary_span, part_of};
+use crate::text::{after, first, is_empty, strip, up_to};
 use mm_tree::{Attributes, Text};
 use std::alloc::{AllocError, Global};
 
 /// What stands at the front of the rest: a character of character data, itself or by a reference; the
-/// characters of a section; a comment or an instruction, which are read over; the tag before an element,
-/// or of an empty one; the tag behind an element; a document type
-/// declaration.
+/// characters of a section, or a run of plain ones; a comment or an instruction, which are read over; the
+/// tag before an element, or of an empty one; the tag behind an element; a document type declaration.
 #[derive(Drop)]
 pub enum Lexeme<'a> {
     Character(char),
     Named(char),
-    Section(&'a str),
+    Passage(&'a str),
     Skipped,
     Open(bool, Text, Attributes),
     Close(Text),
@@ -102,7 +102,7 @@ fn section_of(text: &str) -> Option<(Lexeme<'_>, &str)>
 {
     let (inner, rest) = up_to(text, "]]>")?;
     if are_chars(inner) {
-        Some((Lexeme::Section(inner), rest))
+        Some((Lexeme::Passage(inner), rest))
     } else {
         None
     }
@@ -209,4 +209,22 @@ pub fn next_lexeme(alloc: Global, text: &str) -> Result<Option<(Lexeme<'_>, &str
         },
         None => Ok(None),
     }
+}
+
+/// What stands at the front, and the characters after it. Inside an element, a run of plain characters is
+/// taken whole.
+pub fn next_passage(
+    alloc: Global,
+    inside: bool,
+    text: &str,
+) -> Result<Option<(Lexeme<'_>, &str)>, AllocError>
+    ensures { IfOk result (λ r. Finds r (passage_at inside (chars text.now))) }
+{
+    if inside {
+        let (front, rest) = ordinary_span(text);
+        if !is_empty(front) {
+            return Ok(Some((Lexeme::Passage(front), rest)));
+        }
+    }
+    next_lexeme(alloc, text)
 }

@@ -1,6 +1,7 @@
 ghost use Rattle.std.specs.Prelude.{◌≡◌, ◌+◌, ◌<◌, ◌≤◌, ◌^◌, false, true, IsTrue};
 ghost use Rattle.mm_xml.specs.Machine.{document as document_order, text as text_order, sign_may, sign_next};
 ghost use Rattle.mm_xml.specs.Builds.{order_of};
+ghost use Rattle.mm_xml.specs.Grammar.{is_inside};
 ghost use Rattle.mm_xml.specs.Lexemes.{sign_of};
 
 use crate::letters::is_space;
@@ -45,6 +46,13 @@ impl Order {
         }
     }
 
+    /// Whether an element is open, or all is a text.
+    pub fn is_inside(&self) -> bool
+        ensures { result ≡ is_inside self.now.depth }
+    {
+        self.depth > 0
+    }
+
     /// Whether the lexeme may stand here.
     fn may(&self, lexeme: &Lexeme<'_>) -> bool
         ensures { result ≡ sign_may (order_of self.now) (sign_of lexeme.now) }
@@ -53,7 +61,7 @@ impl Order {
             Lexeme::Character(c) => {
                 !(*c == '>' && self.squares >= 2) && (self.depth > 0 || is_space(*c))
             }
-            Lexeme::Named(_) | Lexeme::Section(_) => self.depth > 0,
+            Lexeme::Named(_) | Lexeme::Passage(_) => self.depth > 0,
             Lexeme::Skipped => true,
             Lexeme::Doctype => self.before,
             Lexeme::Open(_, _, _) | Lexeme::Close(_) => !self.textual,
@@ -89,7 +97,7 @@ impl Order {
                 self.before = false;
                 self.depth = self.depth.saturating_sub(1);
             }
-            Lexeme::Named(_) | Lexeme::Section(_) | Lexeme::Skipped => {}
+            Lexeme::Named(_) | Lexeme::Passage(_) | Lexeme::Skipped => {}
         }
     }
 

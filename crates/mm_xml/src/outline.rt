@@ -6,7 +6,7 @@ ghost use Rattle.mm_xml.specs.Lexemes.{sign_of};
 
 use crate::error::XmlError;
 use crate::letters::{is_blank, is_space};
-use crate::lexeme::{Lexeme, next_lexeme};
+use crate::lexeme::{Lexeme, next_passage};
 use crate::order::Order;
 use crate::text::is_empty;
 use mm_tree::Text;
@@ -100,7 +100,7 @@ impl Outline {
         match lexeme {
             Lexeme::Character(c) => Ok(blank && is_space(c)),
             Lexeme::Named(c) => Ok(blank && is_space(c)),
-            Lexeme::Section(inner) => Ok(blank && is_blank(inner)),
+            Lexeme::Passage(inner) => Ok(blank && is_blank(inner)),
             Lexeme::Skipped | Lexeme::Doctype => Ok(blank),
             Lexeme::Open(empty, name, _) => {
                 self.start(blank, empty, name)?;
@@ -128,7 +128,7 @@ pub fn find_tree(alloc: Global, order: Order, text: &str) -> Result<(), XmlError
         if is_empty(rest) {
             break;
         }
-        let Some((lexeme, behind)) = next_lexeme(alloc, rest)? else {
+        let Some((lexeme, behind)) = next_passage(alloc, order.is_inside(), rest)? else {
             return Err(XmlError::NotXml);
         };
         if !order.accept(&lexeme) {

@@ -7,6 +7,7 @@ ghost use Rattle.mm_xml.specs.Lexing.{span, part_at, reference_at};
 ghost use Rattle.mm_xml.specs.Telling.{tell_part};
 ghost use Rattle.mm_xml.specs.Lexemes.{FindsPart};
 ghost use Rattle.mm_xml.specs.Numbers.{capped};
+ghost use Rattle.mm_xml.specs.Passages.{is_ordinary as ordinary_is};
 
 use crate::letters::{between, is_char};
 use crate::text::{after, first, is, split_after};
@@ -22,6 +23,28 @@ fn is_literal(c: char) -> bool
     ensures { result ≡ literal_is c }
 {
     is_char(c) && c != '<' && c != '&'
+}
+
+fn is_ordinary(c: char) -> bool
+    ensures { result ≡ ordinary_is c }
+{
+    // Letters, of which most texts are, take one test.
+    between(94, 55295, c) || (is_literal(c) && c != '>' && c != ']')
+}
+
+/// The characters at the front that stand for themselves wherever data may stand, and those after them.
+pub fn ordinary_span(text: &str) -> (&str, &str)
+    ensures front { chars result.0.now ≡ (span ordinary_is (chars text.now)).0 }
+    ensures back { chars result.1.now ≡ (span ordinary_is (chars text.now)).1 }
+{
+    let mut rest = text;
+    while let Some((c, behind)) = first(rest) {
+        if !is_ordinary(c) {
+            break;
+        }
+        rest = behind;
+    }
+    text.split_at(text.len() - rest.len())
 }
 
 fn by_name(body: &str) -> Option<char>

@@ -12,6 +12,7 @@ use Rattle.mm_xml.proofs.builder.build.Given as goal
 abbrev pub invariant-loop : goal.invariant-loop
 invariant-loop l = record {
   utf8 : shadow (Utf8 l.rest);
+  few : length (chars l.rest) ≤ length l.text - l.counter;
   same : read_from (length l.text - l.counter) (state_of l.builder.stack) (chars_of l.builder.run) (order_of l.order) (chars l.rest) ≡ read_as (order_of l.fn.order) (chars l.text);
   shallow : deepest_of (state_of l.builder.stack) ≤ most_levels;
   depth : l.order.depth ≤ l.counter + 1;

@@ -10,6 +10,7 @@ use Rattle.mm_xml.proofs.outline.find_tree.Given as goal
 abbrev pub invariant-loop : goal.invariant-loop
 invariant-loop l = record {
   utf8 : shadow (Utf8 l.rest);
+  few : length (chars l.rest) ≤ length l.text - l.counter;
   same : outline_from (length l.text - l.counter) (outline_of l.outline) l.blank (order_of l.order) (chars l.rest) ≡ outline_as (order_of l.fn.order) (chars l.text);
   depth : l.order.depth ≤ l.counter + 1;
   squares : l.order.squares ≤ l.counter;

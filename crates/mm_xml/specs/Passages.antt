@@ -1,0 +1,14 @@
+-- Characters of data that are read in one passage.
+use Rattle.std.specs.Prelude.{ℕ, List, length, Bool, ◌&&◌, not, ◌==◌, Some, if◌then◌else◌}
+use Rattle.mm_xml.specs.Syntax.{is_literal}
+use Rattle.mm_xml.specs.Lexing.{Found, span}
+use Rattle.mm_xml.specs.Telling.{Sign, Passage, sign_at}
+
+-- a character of data that stands for itself, whatever stands before it
+abbrev pub is_ordinary : ℕ → Bool
+is_ordinary c = is_literal c && (not (c == 62) && not (c == 93))
+
+-- inside an element, the ordinary characters at the front as one passage, and else what stands there
+abbrev pub passage_at : Bool → List ℕ → Found Sign
+passage_at inside cs =
+    if inside && not (length (span is_ordinary cs).0 == 0) then Some (Passage (span is_ordinary cs).0, (span is_ordinary cs).1) else sign_at cs
