@@ -1,16 +1,18 @@
 -- The candidates that own a match of each word are the answers.
 use Rattle.std.proofs.Common.{inl, inr, ◌≡◌, ℕ, zero, suc, ◌<◌, length, get_or, arith, List, reverse, [], ◌∷◌, subst, ◌∙◌}
-use Rattle.mm_lists.specs.Fronts.{Label, Front, Within, Full, IsFullNode, Ascends, Word}
+use Rattle.mm_label.specs.Fronts.{Label, Front, Within, Ascends}
+use Rattle.mm_lists.specs.Full.{Full, IsFullNode, Word}
 use Rattle.mm_label.specs.Label.{whole}
 use Rattle.mm_tree.specs.Trees.{Trees, none, node}
 use Rattle.mm_tree.specs.Search.{Worded, list_of, lists_of}
 use Rattle.mm_lists.specs.Formed.{WellFormed}
 use Rattle.mm_tree.specs.Elca.{elca}
 use Rattle.mm_elca.specs.Owning.{IsOwn, OwnsEach, IsOwner, Gathered}
-use Rattle.mm_lists.proofs.FrontLaws.{front_refl, front_antisym}
-use Rattle.mm_lists.proofs.Unique.{met, meets}
-use Rattle.mm_lists.proofs.Below.{NodeOf, node_below, under, front_cases, full_lists, lists_full}
-use Rattle.mm_lists.proofs.Listed.{listed_node, node_whole, full_at}
+use Rattle.mm_label.specs.Facts.Fronts.{front_refl, front_antisym, front_cases}
+use Rattle.mm_label.specs.Facts.Lists.{met, meets}
+use Rattle.mm_lists.specs.Facts.Below.{NodeOf, node_below, full_lists, lists_full}
+use Rattle.mm_label.specs.Facts.Children.{under}
+use Rattle.mm_lists.specs.Facts.Listed.{listed_node, node_whole, full_at}
 use Rattle.mm_elca.proofs.Owners.{OwnAt, OwnsAll, Owners, elca_owners, one_owners, at_list, list_at}
 use Rattle.mm_elca.proofs.Owned.{elca_candidate}
 use Rattle.mm_elca.specs.Stack.{Judged}

@@ -1,18 +1,18 @@
 -- The first node of a list outside some of the children of a node, and what it says of owning.
 use Rattle.std.proofs.Common.{inl, inr, ◌≡◌, ◌⊎◌, Bool, true, false, ◌&&◌, List, [], ◌∷◌, ◌++◌, refl, sym, subst, ap, ◌∙◌, Option, Some, None, ℕ, zero, suc, ◌+◌, ◌<◌, take, length, get_or, arith}
 use Rattle.std.proofs.lemmas.List.{take_more}
-use Rattle.mm_lists.specs.Fronts.{Label, Front, is_front, Le, Apart, Within, IsFull, Rising}
+use Rattle.mm_label.specs.Fronts.{Label, Front, is_front, Le, Apart, Within, IsChild}
+use Rattle.mm_lists.specs.Full.{IsFull, Rising}
 use Rattle.mm_lists.specs.Lists.{IsRightPast}
-use Rattle.mm_lists.proofs.FrontLaws.{front_yes, front_no, front_trans, front_le, le_trans, between_front, apart_trans}
-use Rattle.mm_lists.proofs.Candidates.{full_above}
-use Rattle.mm_lists.proofs.Nearest.{RightMatch}
-use Rattle.mm_lists.specs.Formed.{IsChild}
-use Rattle.mm_lists.proofs.Ties.{past_apart, apart_past, le_of, contains_of, within_of}
+use Rattle.mm_label.specs.Facts.Fronts.{front_yes, front_no, front_trans, front_le, le_trans, between_front, apart_trans}
+use Rattle.mm_lists.specs.Facts.Candidates.{full_above}
+use Rattle.mm_lists.specs.Facts.Nearest.{RightMatch}
+use Rattle.mm_label.specs.Facts.Order.{past_apart, apart_past, le_of}
+use Rattle.mm_label.specs.Facts.Lists.{contains_of, within_of, within_longer, within_last, within_cases}
 use Rattle.mm_elca.specs.Children.{AreBelow, AreChildrenTo, AreChildren, RiseOrStay, IsNextChild}
 use Rattle.mm_elca.specs.Clear.{Clear, IsFirstClear, is_under, Tells, TellsAll}
 use Rattle.mm_elca.specs.Owning.{IsOwn}
-use Rattle.mm_elca.proofs.Walking.{within_longer, within_last, within_cases}
-use Rattle.mm_elca.proofs.Kids.{child_first, children_rise}
+use Rattle.mm_label.specs.Facts.Children.{child_first, children_rise}
 
 -- the first after v and all that lies below v
 abbrev pub PastMatch : List Label → Label → Option Label → Type 0

@@ -1,13 +1,14 @@
 -- The candidates of the nodes of a list are gathered one by one.
 use Rattle.std.proofs.Common.{inl, inr, ◌≡◌, ◌∙◌, ℕ, ◌+◌, ◌≤◌, length, take, drop, take_all, arith, ap, List, [], ◌∷◌, ◌++◌, Option, Some, None, Result, Ok, Err, OnOk, refl, sym, subst}
 use Rattle.std.proofs.lemmas.List.{length-drop, drop_all, take_more}
-use Rattle.mm_lists.specs.Fronts.{Label, Front, Within, Meets, Full, IsFullNode, IsCandidate, Ascends, or_empty}
-use Rattle.mm_lists.proofs.Nearest.{NextMatch}
-use Rattle.mm_lists.proofs.FrontLaws.{front_antisym}
-use Rattle.mm_lists.proofs.Unique.{met, meets}
+use Rattle.mm_label.specs.Fronts.{Label, Front, Within, Meets, Ascends}
+use Rattle.mm_lists.specs.Full.{Full, IsFullNode, IsCandidate, or_empty}
+use Rattle.mm_lists.specs.Facts.Nearest.{NextMatch}
+use Rattle.mm_label.specs.Facts.Fronts.{front_antisym}
+use Rattle.mm_label.specs.Facts.Lists.{met, meets, within_drop, within_last, within_longer, within_cases}
 use Rattle.mm_lists.specs.Lists.{head_of}
 use Rattle.mm_elca.specs.Owning.{Gathered, Gathering, Candidates, IsInOrder, TakesIn}
-use Rattle.mm_elca.proofs.Walking.{head_none, head_some, next_is, drop_rest, within_drop, within_last, within_longer, within_cases}
+use Rattle.mm_lists.specs.Facts.Walking.{head_none, head_some, next_is, drop_rest}
 
 last_length : (c : Label) (ds : List Label) → length (ds ++ c ∷ []) ≡ length ds + 1
 last_length c [] = refl

@@ -1,11 +1,11 @@
 -- One step of the walk from the last candidate to the first.
 use Rattle.std.proofs.Common.{inl, inr, ◌≡◌, Bool, true, false, cond, List, [], ◌∷◌, ◌++◌, refl, sym, subst}
-use Rattle.mm_lists.specs.Fronts.{Label, Apart, Within, Lt, Ascends}
+use Rattle.mm_label.specs.Fronts.{Label, Apart, Within, Lt, Ascends}
 use Rattle.mm_elca.specs.Children.{AreBelow, AreChildrenTo, AreChildren}
 use Rattle.mm_elca.specs.Clear.{TellsAll}
 use Rattle.mm_elca.specs.Stack.{Stacked, Parted, Judged, Off}
 use Rattle.mm_elca.specs.Owning.{OwnsEach, IsOwner, Candidates, Ready}
-use Rattle.mm_lists.proofs.FrontLaws.{front_trans}
+use Rattle.mm_label.specs.Facts.Fronts.{front_trans}
 use Rattle.mm_elca.proofs.Clearing.{ChildrenOf, Under, under_below, under_children, children_are}
 use Rattle.mm_elca.proofs.Stacking.{off_apart, parted_under, stacked_more, judged_yes, judged_no, later_covers}
 

@@ -1,5 +1,3 @@
-pub mod Walking
-pub mod Kids
 pub mod Clearing
 pub mod Stacking
 pub mod Sorting

@@ -1,8 +1,8 @@
 -- The nodes that hold every word outside the full nodes below them are candidates.
 use Rattle.std.proofs.Common.{inl, inr, ◌≡◌, List, subst}
-use Rattle.mm_lists.specs.Fronts.{Label, Front, IsFull, IsCandidate}
-use Rattle.mm_lists.proofs.FrontLaws.{front_refl, front_antisym}
-use Rattle.mm_lists.proofs.Below.{front_cases}
+use Rattle.mm_label.specs.Fronts.{Label, Front}
+use Rattle.mm_lists.specs.Full.{IsFull, IsCandidate}
+use Rattle.mm_label.specs.Facts.Fronts.{front_refl, front_antisym, front_cases}
 use Rattle.mm_elca.specs.Owning.{IsOwn}
 
 pub elca_candidate : (ls : List (List Label)) (x v c : Label) → IsFull ls x → IsOwn ls x v → IsCandidate ls v c → c ≡ x

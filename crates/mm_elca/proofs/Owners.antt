@@ -1,14 +1,17 @@
 -- The recursion on trees gives the nodes that own a match of each word.
 use Rattle.std.proofs.Common.{inl, inr, ◌≡◌, ◌⊎◌, Bool, true, false, not, cond, ◌&&◌, ◌||◌, List, [], ◌∷◌, ◌++◌, refl, sym, subst, ◌∙◌}
-use Rattle.mm_lists.specs.Fronts.{Label, Front, Within, Lt, Ascends, Word}
+use Rattle.std.proofs.lemmas.Bool.{or_cases, or_left, or_right, and_parts, and_from}
+use Rattle.mm_label.specs.Fronts.{Label, Front, Within, Lt, Ascends}
+use Rattle.mm_lists.specs.Full.{Word}
 use Rattle.mm_label.specs.Label.{whole}
 use Rattle.mm_tree.specs.Trees.{Trees, none, node}
 use Rattle.mm_tree.specs.Search.{Worded, has, holds, is_full, list_of}
 use Rattle.mm_lists.specs.Formed.{WellFormed}
 use Rattle.mm_tree.specs.Elca.{outside, owns, elca}
-use Rattle.mm_lists.proofs.FrontLaws.{front_refl, front_trans, front_antisym, apart_below, below_apart, le_antisym}
-use Rattle.mm_lists.proofs.Below.{NodeOf, node_below, node_after, HasBelow, AllBelow, AllOne, or_cases, or_left, or_right, and_both, and_of, full_of, of_full, under, within_joined}
-use Rattle.mm_lists.proofs.Listed.{within_own, apart_lt, lt_below, ascends_joined, ascends_own}
+use Rattle.mm_label.specs.Facts.Fronts.{front_refl, front_trans, front_antisym, apart_below, below_apart, le_antisym}
+use Rattle.mm_lists.specs.Facts.Below.{NodeOf, node_below, node_after, HasBelow, AllBelow, AllOne, full_of, of_full}
+use Rattle.mm_label.specs.Facts.Children.{under}
+use Rattle.mm_label.specs.Facts.Lists.{within_joined, within_own, apart_lt, lt_below, ascends_joined, ascends_own}
 
 -- the node m holds the word itself
 abbrev pub HasAt : Label → Word → Trees Worded → Type 0
@@ -195,7 +198,7 @@ owns_all : (query ws : List Word) (all : Trees Worded) (e : Worded) (inner rest 
     → owns ws query e inner ≡ true → OwnsAll query all e.label ws
 owns_all query [] all e inner rest y p h = tt
 owns_all query (w ∷ ws) all e inner rest y p h =
-    let t = and_both (has e w || outside w query inner) _ h in (
+    let t = and_parts (has e w || outside w query inner) _ h in (
       elim (or_cases (has e w) _ t.0) [
         | inl q ↦ (e.label, p.into w e.label (inl (inl (q, refl))), (front_refl e.label, λ z i a d n g. n (front_antisym z e.label g d)))
         | inr q ↦ outside_at query all inner e.label w (placed_inner all e inner rest y p) q
@@ -208,7 +211,7 @@ all_owns : (query ws : List Word) (all : Trees Worded) (e : Worded) (inner rest 
 all_owns query [] all e inner rest y p h = refl
 all_owns query (w ∷ ws) all e inner rest y p h =
     let t = h.0 in
-    and_of (has e w || outside w query inner) _
+    and_from (has e w || outside w query inner) _
     (elim (placed_one all e inner rest y t.0 w p t.2.0 t.1) [
       | inl q ↦ or_left (has e w) _ q.0
       | inr q ↦ or_right (has e w) _ (outside_of query all inner e.label t.0 w (placed_inner all e inner rest y p) q t.2.1)

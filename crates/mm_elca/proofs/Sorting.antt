@@ -11,8 +11,9 @@ use Rattle.std.proofs.lemmas.List.Kept.{Contains-dedup, Contains-from_dedup, IsS
 use Rattle.std.proofs.lemmas.List.Sorted.{Contains-permutation, IsPermutation-sym}
 use Rattle.std.proofs.lemmas.Bool.Decides.{Decides-int_eq}
 use Rattle.std.proofs.lemmas.Slice.Eq.{slice_eq-Decides}
-use Rattle.mm_lists.specs.Fronts.{Label, Lt, Within, Ascends}
-use Rattle.mm_lists.proofs.Ties.{before_lt, contains_of, within_of}
+use Rattle.mm_label.specs.Fronts.{Label, Lt, Within, Ascends}
+use Rattle.mm_label.specs.Facts.Order.{before_lt}
+use Rattle.mm_label.specs.Facts.Lists.{contains_of, within_of}
 use Rattle.mm_elca.specs.Owning.{IsInOrder}
 
 before_all : (x m : Label) (ms : List Label) → AllByRecursion (λ y. slice_cmp int_cmp x y ≡ Less) ms → Within m ms → Lt x m

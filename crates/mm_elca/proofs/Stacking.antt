@@ -1,11 +1,12 @@
 -- The walk over the candidates from the last to the first.
 use Rattle.std.proofs.Common.{ℕ, length, ◌+◌, ◌*◌, ◌≤◌, arith, ap, inl, inr, true, ◌≡◌, ◌⊎◌, List, reverse, [], ◌∷◌, ◌++◌, refl, sym, subst, ◌∙◌}
 use Rattle.std.proofs.lemmas.Grind.{reverse_onto}
-use Rattle.mm_lists.specs.Fronts.{Label, Front, is_front, Apart, Within, Meets, IsFull, IsFullNode, Lt, Ascends}
+use Rattle.mm_label.specs.Fronts.{Label, Front, is_front, Apart, Within, Meets, Lt, Ascends}
+use Rattle.mm_lists.specs.Full.{IsFull, IsFullNode}
 use Rattle.mm_elca.specs.Stack.{Falling, Descends, Stacked, Parted, Judged, Off}
-use Rattle.mm_lists.proofs.FrontLaws.{front_yes, front_no, front_refl, front_trans, front_antisym, fronts_of_one, front_le, le_antisym, apart_trans, apart_below}
-use Rattle.mm_lists.proofs.Unique.{met}
-use Rattle.mm_elca.proofs.Walking.{within_longer, within_last, within_cases, rising_more}
+use Rattle.mm_label.specs.Facts.Fronts.{front_yes, front_no, front_refl, front_trans, front_antisym, fronts_of_one, front_le, le_antisym, apart_trans, apart_below}
+use Rattle.mm_label.specs.Facts.Lists.{met, within_longer, within_last, within_cases}
+use Rattle.mm_lists.specs.Facts.Walking.{rising_more}
 use Rattle.mm_elca.proofs.Clearing.{Under}
 
 falling_more : (ds : List Label) (u : Label) → Falling ds → ((d : Label) → Within d ds → Apart u d) → Falling (ds ++ u ∷ [])

@@ -1,8 +1,7 @@
 -- The children of a node on the way to nodes below it.
 use Rattle.std.specs.Prelude.{List, [], ◌∷◌, ◌≡◌, ◌⊎◌}
 use Rattle.mm_label.specs.Label.{whole}
-use Rattle.mm_lists.specs.Fronts.{Label, Front, Apart, Within}
-use Rattle.mm_lists.specs.Formed.{IsChild}
+use Rattle.mm_label.specs.Fronts.{Label, Front, Apart, Within, IsChild}
 
 -- nodes below x
 abbrev pub AreBelow : Label → List Label → Type 0

@@ -1,6 +1,6 @@
 -- The first node of a list outside some of the children of a node.
 use Rattle.std.specs.Prelude.{Bool, true, false, List, [], ◌∷◌, ◌≡◌, ◌⊎◌, Option, Some, None}
-use Rattle.mm_lists.specs.Fronts.{Label, Front, is_front, Le, Within}
+use Rattle.mm_label.specs.Fronts.{Label, Front, is_front, Le, Within}
 
 -- none of them is m or above it
 abbrev pub Clear : List Label → Label → Type 0

@@ -1,7 +1,8 @@
 -- A node owns an occurrence of a word where no full node truly below it is at or above that occurrence.
 -- ELCA: Xu and Papakonstantinou, "Efficient LCA based Keyword Search in XML Data", EDBT 2008.
 use Rattle.std.specs.Prelude.{ℕ, Option, Some, None, ◌<◌, length, take, drop, List, [], ◌∷◌, ◌++◌, ◌≡◌}
-use Rattle.mm_lists.specs.Fronts.{Label, Front, Within, Meets, IsFull, IsFullNode, IsCandidate, Lt, Ascends}
+use Rattle.mm_label.specs.Fronts.{Label, Front, Within, Meets, Lt, Ascends}
+use Rattle.mm_lists.specs.Full.{IsFull, IsFullNode, IsCandidate}
 use Rattle.mm_lists.specs.Lists.{head_of}
 
 -- no full label truly below x is at or above m

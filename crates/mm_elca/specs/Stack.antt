@@ -1,6 +1,7 @@
 -- The walk over the candidates from the last to the first, and what its stack holds.
 use Rattle.std.specs.Prelude.{true, false, Option, Some, None, List, [], ◌∷◌, ◌++◌, ◌≡◌, ◌⊎◌}
-use Rattle.mm_lists.specs.Fronts.{Label, Front, is_front, Apart, Within, Rising, Lt}
+use Rattle.mm_label.specs.Fronts.{Label, Front, is_front, Apart, Within, Lt}
+use Rattle.mm_lists.specs.Full.{Rising}
 
 -- each comes after all that stand later, and lies below none of them
 abbrev pub Falling : List Label → Type 0

@@ -7,7 +7,8 @@ ghost use Rattle.mm_tree.specs.Numbering.{Labelled};
 ghost use Rattle.mm_tree.specs.Forests.{is_well_formed};
 ghost use Rattle.mm_tree.specs.Search.{list_of, lists_of, worded};
 ghost use Rattle.mm_lists.specs.Causes.{Caused, IsSound};
-ghost use Rattle.mm_lists.specs.Fronts.{Full, Ascends};
+ghost use Rattle.mm_lists.specs.Full.{Full};
+ghost use Rattle.mm_label.specs.Fronts.{Ascends};
 ghost use Rattle.mm_elca.specs.Owning.{Gathered, Gathering, IsInOrder, TakesIn};
 
 use mm_host::Fault;

@@ -1,19 +1,11 @@
 //! The stack of the candidates that were passed.
 
 ghost use Rattle.std.specs.Prelude.{◌≡◌, ◌+◌, IfOk, length};
-ghost use Rattle.mm_lists.specs.Fronts.{is_front};
 ghost use Rattle.mm_elca.specs.Stack.{Falling, Off, Parted, Takes};
 
 use mm_label::Label;
 use mm_list::Items;
 use std::alloc::{AllocError, Global};
-
-/// Whether the first is an ancestor of the second or the same.
-pub fn is_front(a: &Label, b: &Label) -> bool
-    ensures { result ≡ is_front a.now b.now }
-{
-    a.is_prefix(b)
-}
 
 /// Takes the last of the stack off where it lies below x.
 fn take_one(x: &Label, stack: &mut Items<Label>) -> Result<Option<Label>, AllocError>
@@ -22,7 +14,7 @@ fn take_one(x: &Label, stack: &mut Items<Label>) -> Result<Option<Label>, AllocE
     let Some(t) = stack.pop() else {
         return Ok(None);
     };
-    if is_front(x, &t) {
+    if x.is_prefix(&t) {
         return Ok(Some(t));
     }
     stack.push(t)?;

@@ -5,11 +5,10 @@ ghost use Rattle.mm_tree.specs.Trees.{Trees};
 ghost use Rattle.mm_tree.specs.Numbering.{Labelled};
 ghost use Rattle.mm_tree.specs.Search.{list_of, lists_of, worded};
 ghost use Rattle.mm_lists.specs.Causes.{Caused, IsSound};
-ghost use Rattle.mm_lists.specs.Fronts.{Label};
+ghost use Rattle.mm_label.specs.Fronts.{Label};
 ghost use Rattle.mm_elca.specs.Children.{AreChildren, IsNextChild};
 ghost use Rattle.mm_elca.specs.Clear.{IsFirstClear, Tells, TellsAll, is_under};
 
-use crate::stack::is_front;
 use mm_host::Fault;
 use mm_label::Label;
 use mm_lists::Lists;
@@ -36,7 +35,7 @@ fn skip<X: Lists, L: Ledger>(
     let Some(p) = found else {
         return Ok(None);
     };
-    if is_front(kid, &p) {
+    if kid.is_prefix(&p) {
         return lists.right_past(word, kid, steps);
     }
     Ok(Some(p))
@@ -47,7 +46,7 @@ fn is_below(x: &Label, found: &Option<Label>) -> bool
 {
     match found {
         None => false,
-        Some(p) => is_front(x, p),
+        Some(p) => x.is_prefix(p),
     }
 }
 

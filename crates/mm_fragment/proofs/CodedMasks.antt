@@ -4,8 +4,9 @@ use Rattle.std.specs.List.{list_any, filter}
 use Rattle.std.specs.Int.Bits.{bit_or, or_zero_r}
 use Rattle.std.proofs.lemmas.Nat.{or_block}
 use Rattle.std.proofs.lemmas.List.Folds.{list_any-append}
+use Rattle.std.proofs.lemmas.Bool.{and_parts}
 use Rattle.mm_match.specs.declared.mark.Mark.{Mark}
-use Rattle.mm_match.specs.Fronts.{Label, Front, is_front, Apart}
+use Rattle.mm_label.specs.Fronts.{Label, Front, is_front, Apart}
 use Rattle.mm_match.specs.Marks.{mask_from, mask_at}
 use Rattle.mm_tree.specs.Trees.{Trees, none, node, preorder}
 use Rattle.mm_tree.specs.Search.{has, holds}
@@ -14,8 +15,8 @@ use Rattle.mm_fragment.proofs.LinkFormed.{Formed}
 use Rattle.mm_fragment.specs.Marked.{Rowed, number}
 use Rattle.mm_fragment.specs.Matching.{marks_of, matches_of}
 use Rattle.mm_fragment.proofs.Subtree.{apart_common}
-use Rattle.mm_fragment.proofs.FrontLaws.{front_refl, front_trans, front_antisym, front_yes, is_front_of}
-use Rattle.mm_fragment.proofs.LinkTrees.{In, in_cases, any_none, both, node_under, node_apart}
+use Rattle.mm_label.specs.Facts.Fronts.{front_refl, front_trans, front_antisym, front_yes, is_front_of}
+use Rattle.mm_fragment.proofs.LinkTrees.{In, in_cases, any_none, node_under, node_apart}
 use Rattle.mm_fragment.proofs.FlatRebuild.{name_label, not_front}
 use Rattle.mm_fragment.proofs.MarkedOpen.{with_words, words_in}
 use Rattle.mm_fragment.proofs.LinkPaths.{Word, both_trees}
@@ -105,7 +106,7 @@ mask_is x query es = all_words 0 0 x query es (omega arith) ∙ omega arith
 -- ---- what is reached from a node
 
 none_reached : (x : Label) (w : Word) (es : List Named) → ((e : Named) → In e es → Front x e.label → ⊥) → reaches x w es ≡ false
-none_reached x w es h = any_none (λ e. has (bare e) w && is_front x e.label) es (λ e i q. h e i (front_yes x e.label (both (has (bare e) w) (is_front x e.label) q).1))
+none_reached x w es h = any_none (λ e. has (bare e) w && is_front x e.label) es (λ e i q. h e i (front_yes x e.label (and_parts (has (bare e) w) (is_front x e.label) q).1))
 
 or_none : (t : Bool) → (t || false) ≡ t
 or_none true = refl

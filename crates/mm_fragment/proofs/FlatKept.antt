@@ -2,15 +2,16 @@
 use Rattle.std.proofs.Common.{inl, inr, ◌≡◌, ◌⊎◌, Bool, true, false, not, ◌&&◌, cond, List, [], ◌∷◌, ◌++◌, refl, ap, sym, subst, ◌∙◌}
 use Rattle.std.specs.List.{list_any, filter}
 use Rattle.std.proofs.lemmas.List.Elements.{filter-append}
+use Rattle.std.proofs.lemmas.Bool.{and_parts, and_from}
 use Rattle.mm_label.specs.Label.{whole}
 use Rattle.mm_match.specs.declared.mark.Mark.{Mark}
-use Rattle.mm_match.specs.Fronts.{Label, Front, is_front, same, Apart, parent}
+use Rattle.mm_label.specs.Fronts.{Label, Front, is_front, Apart, same, parent}
 use Rattle.mm_match.specs.Marks.{is_rival, is_beaten, survives, kept, under}
 use Rattle.mm_tree.specs.Trees.{Trees, none, node, preorder}
 use Rattle.mm_fragment.proofs.LinkFormed.{ApartFrom, Formed}
-use Rattle.mm_fragment.proofs.FrontLaws.{front_refl, front_trans, front_antisym, front_yes, is_front_of, apart_below}
-use Rattle.mm_fragment.proofs.LinkFronts.{parent_front}
-use Rattle.mm_fragment.proofs.LinkTrees.{In, in_cases, in_first, in_second, any_at, any_none, any_same, both, both_of, node_under, node_parent, node_whole, node_apart}
+use Rattle.mm_label.specs.Facts.Fronts.{front_refl, front_trans, front_antisym, front_yes, is_front_of, apart_below, same_is, same_of}
+use Rattle.mm_label.specs.Facts.Parents.{parent_front}
+use Rattle.mm_fragment.proofs.LinkTrees.{In, in_cases, in_first, in_second, any_at, any_none, any_same, node_under, node_parent, node_whole, node_apart}
 
 abbrev pub at : Mark → Label
 at m = m.label
@@ -30,12 +31,6 @@ thinned all (node m inner rest) = cond (outdone m all) (thinned all rest) (node 
 filter_none : (t : Mark → Bool) (xs : List Mark) → ((p : Mark) → In p xs → t p ≡ false) → filter t xs ≡ []
 filter_none t [] h = refl
 filter_none t (x ∷ xs) h = rw (h x (inl refl)) (filter_none t xs (λ p w. h p (inr w)))
-
-same_labels : (a b : Label) → a ≡ b → same a b ≡ true
-same_labels a b e = subst (λ (x : Label). same a x ≡ true) e (both_of (is_front a a) (is_front a a) (is_front_of a a (front_refl a)) (is_front_of a a (front_refl a)))
-
-of_same : (a b : Label) → same a b ≡ true → a ≡ b
-of_same a b e = let d = both (is_front a b) (is_front b a) e in front_antisym a b (front_yes a b d.0) (front_yes b a d.1)
 
 top_in : (p : Mark) (f : Trees Mark) → In p (tops f) → In p (preorder f)
 top_in p none w = absurd w
@@ -67,8 +62,8 @@ record Placed (all ts : List Mark) (y : Label) (f : Trees Mark) : Type 0 where
 
 beaten_is : (all ts : List Mark) (y : Label) (f : Trees Mark) (m : Mark) → Placed all ts y f → parent m.label ≡ y → is_beaten all m ≡ outdone m ts
 beaten_is all ts y f m k e = any_same (is_rival m) (λ n. under m.mask n.mask) all ts
-    (λ p w z. let d = both (same (parent m.label) (parent p.label)) (under m.mask p.mask) z in (k.siblings p w (sym (of_same (parent m.label) (parent p.label) d.0) ∙ e), d.1))
-    (λ p w z. let l = k.listed p w in (l.0, both_of (same (parent m.label) (parent p.label)) (under m.mask p.mask) (same_labels (parent m.label) (parent p.label) (e ∙ sym l.1)) z))
+    (λ p w z. let d = and_parts (same (parent m.label) (parent p.label)) (under m.mask p.mask) z in (k.siblings p w (sym (same_is (parent m.label) (parent p.label) d.0) ∙ e), d.1))
+    (λ p w z. let l = k.listed p w in (l.0, and_from (same (parent m.label) (parent p.label)) (under m.mask p.mask) (same_of (parent m.label) (parent p.label) (e ∙ sym l.1)) z))
 
 -- a mark at or below the first root is that root or one of its tree
 at_first : (all ts : List Mark) (y : Label) (m : Mark) (inner rest : Trees Mark) (p : Mark) → Placed all ts y (node m inner rest) → In p all → Front m.label p.label → (p ≡ m) ⊎ In p (preorder inner)
@@ -139,11 +134,11 @@ placed_rest all ts y m inner rest k = record {
 
 -- nothing at or below a beaten mark survives
 none_survives : (all : List Mark) (m p : Mark) → In m all → is_beaten all m ≡ true → Front m.label p.label → survives all p ≡ false
-none_survives all m p w b f = ap not (any_at (λ q. is_front q.label p.label && is_beaten all q) m all w (both_of (is_front m.label p.label) (is_beaten all m) (is_front_of m.label p.label f) b))
+none_survives all m p w b f = ap not (any_at (λ q. is_front q.label p.label && is_beaten all q) m all w (and_from (is_front m.label p.label) (is_beaten all m) (is_front_of m.label p.label f) b))
 
 first_survives : (all ts : List Mark) (y : Label) (m : Mark) (inner rest : Trees Mark) → Placed all ts y (node m inner rest) → is_beaten all m ≡ false → survives all m ≡ true
 first_survives all ts y m inner rest k b = ap not (any_none (λ q. is_front q.label m.label && is_beaten all q) all (λ p w z.
-    let d = both (is_front p.label m.label) (is_beaten all p) z in
+    let d = and_parts (is_front p.label m.label) (is_beaten all p) z in
     let h : is_beaten all m ≡ true = subst (λ (q : Mark). is_beaten all q ≡ true) (above_first all ts y m inner rest p k w (front_yes p.label m.label d.0) d.1) d.1 in absurd cc))
 
 survivors : (all ts : List Mark) (y : Label) (f : Trees Mark) → Placed all ts y f → filter (survives all) (preorder f) ≡ preorder (thinned ts f)

@@ -1,12 +1,12 @@
 -- Well-formed trees are rebuilt from their nodes.
 use Rattle.std.proofs.Common.{inl, inr, ◌≡◌, Bool, true, false, cond, List, [], ◌++◌, refl, ap, ap₂, sym, ◌∙◌, append-nil, append_assoc}
-use Rattle.mm_match.specs.Fronts.{Label, Front, is_front}
+use Rattle.mm_label.specs.Fronts.{Label, Front, is_front}
 use Rattle.mm_tree.specs.Trees.{Trees, none, node, preorder}
 use Rattle.mm_tree.specs.Forests.{and_then}
 use Rattle.mm_tree.specs.Fragments.{Named}
 use Rattle.mm_fragment.proofs.LinkFormed.{ApartFrom, Formed}
 use Rattle.mm_fragment.specs.Rebuild.{below, behind, take_in, rebuild}
-use Rattle.mm_fragment.proofs.FrontLaws.{front_trans, front_yes, is_front_of}
+use Rattle.mm_label.specs.Facts.Fronts.{front_trans, front_yes, is_front_of}
 use Rattle.mm_fragment.proofs.LinkTrees.{In, in_second, node_under}
 
 abbrev pub name_label : Named → Label

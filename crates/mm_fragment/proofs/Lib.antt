@@ -1,10 +1,3 @@
-pub mod FrontLaws
-pub mod Ties
-pub mod Formed
-pub mod Segments
-pub mod Below
-pub mod Listed
-pub mod Kids
 pub mod Subtree
 pub mod Open
 pub mod Answered
@@ -26,5 +19,4 @@ pub mod LinkMasks
 pub mod LinkFragment
 pub mod LinkTells
 pub mod Rounds
-pub mod Keeping
 pub mod Words

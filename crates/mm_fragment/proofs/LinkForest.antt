@@ -5,8 +5,9 @@ use Rattle.std.specs.Ordering.{int_eq}
 use Rattle.std.specs.Cmp.Lexicographic.{pointwise}
 use Rattle.std.proofs.lemmas.Slice.Eq.{slice_eq-Decides}
 use Rattle.std.proofs.lemmas.Bool.Decides.{Decides-int_eq}
+use Rattle.std.proofs.lemmas.Bool.{or_right}
 use Rattle.mm_label.specs.Label.{whole}
-use Rattle.mm_match.specs.Fronts.{Label, Front, Apart}
+use Rattle.mm_label.specs.Fronts.{Label, Front, Apart}
 use Rattle.mm_tree.specs.Trees.{Trees, Tree, none, node, one, preorder}
 use Rattle.mm_tree.specs.Numbering.{Labelled}
 use Rattle.mm_tree.specs.Forests.{is_well_formed}
@@ -14,11 +15,11 @@ use Rattle.mm_tree.specs.Edits as edits
 use Rattle.mm_tree.specs.Edits.{found, has_label}
 use Rattle.mm_tree.specs.Fragments.{named}
 use Rattle.mm_fragment.proofs.LinkFormed.{ApartFrom, Formed}
-use Rattle.mm_fragment.proofs.FrontLaws.{front_refl}
+use Rattle.mm_label.specs.Facts.Fronts.{front_refl}
 use Rattle.mm_fragment.proofs.LinkFronts.{child_below}
-use Rattle.mm_fragment.proofs.Formed.{RootsAfter, WellFormed}
-use Rattle.mm_fragment.proofs.Segments.{formed}
-use Rattle.mm_fragment.proofs.Kids.{same_label}
+use Rattle.mm_lists.specs.Formed.{RootsAfter, WellFormed}
+use Rattle.mm_lists.specs.Facts.Formed.{formed}
+use Rattle.mm_label.specs.Facts.Order.{same_label}
 use Rattle.mm_tree.specs.Search.{worded}
 use Rattle.mm_fragment.proofs.LinkTrees.{In, in_cases, in_first, in_second, node_under, node_apart}
 use Rattle.mm_fragment.proofs.FlatRebuild.{name_label}
@@ -68,10 +69,6 @@ has_in (node d inner rest) e w = elim w [
     | inr h ↦ or_right (edits.has e.label inner) (edits.has e.label rest) (has_in rest e h)
   ])
 ]
-  where
-    or_right : (a b : Bool) → b ≡ true → (a || b) ≡ true
-    or_right true b e = refl
-    or_right false b e = e
 
 in_has : (f : Trees Labelled) (x : Label) → edits.has x f ≡ true → (e : Labelled) × In e (preorder f) × (e.label ≡ x)
 in_has none x h = absurd cc

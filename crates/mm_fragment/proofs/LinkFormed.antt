@@ -1,7 +1,7 @@
 -- Where the labels of a well-formed forest stand, as a recursion on its trees.
 use Rattle.std.specs.Prelude.{ℤ, List, ◌≡◌, ◌⊎◌}
 use Rattle.mm_label.specs.Label.{whole}
-use Rattle.mm_match.specs.Fronts.{Front, Apart, parent}
+use Rattle.mm_label.specs.Fronts.{Front, Apart, parent}
 use Rattle.mm_tree.specs.Trees.{Trees, none, node}
 
 -- x is y and one segment

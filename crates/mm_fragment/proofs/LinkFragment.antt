@@ -2,7 +2,7 @@
 use Rattle.std.proofs.Common.{inl, inr, ◌≡◌, ◌⊎◌, List, [], ◌∷◌, map, refl, ap, ap₂, sym, subst, ◌∙◌, Option, Some, append-nil}
 use Rattle.std.specs.Prelude.{IsTrue}
 use Rattle.mm_match.specs.declared.mark.Mark.{Mark}
-use Rattle.mm_match.specs.Fronts.{Label, Meets}
+use Rattle.mm_label.specs.Fronts.{Label, Meets}
 use Rattle.mm_match.specs.Marks.{labels, kept}
 use Rattle.mm_tree.specs.Trees.{Trees, Tree, none, node, one, preorder}
 use Rattle.mm_tree.specs.Numbering.{Labelled}

@@ -2,7 +2,7 @@
 use Rattle.std.proofs.Common.{inl, inr, ◌≡◌, ℕ, Bool, true, false, not, ◌&&◌, ◌||◌, cond, List, [], ◌∷◌, ◌++◌, map, refl, ap, ap₂, sym, subst, ◌∙◌, length, nat_eq, bit_and, eq-eqb, append-nil}
 use Rattle.std.specs.Prelude.{◌↔◌}
 use Rattle.mm_match.specs.declared.mark.Mark.{Mark}
-use Rattle.mm_match.specs.Fronts.{Label, Front, Within, Ascends, Meets}
+use Rattle.mm_label.specs.Fronts.{Label, Front, Within, Ascends, Meets}
 use Rattle.mm_match.specs.Marks.{labels, InMarks, IsOnPath, mask_at, kept}
 use Rattle.mm_tree.specs.Trees.{Trees, Tree, none, node, one, preorder}
 use Rattle.mm_tree.specs.Search.{has}
@@ -10,7 +10,7 @@ use Rattle.mm_tree.specs.Fragments.{Named, bare}
 use Rattle.mm_fragment.proofs.LinkFormed.{Formed}
 use Rattle.mm_fragment.specs.Marked.{Rowed, marked, rows_in, pruned, number, mark_of, coded}
 use Rattle.mm_fragment.specs.Matching.{open_nodes, matches_of}
-use Rattle.mm_fragment.proofs.FrontLaws.{front_refl, front_antisym, le_antisym}
+use Rattle.mm_label.specs.Facts.Fronts.{front_refl, front_antisym, le_antisym}
 use Rattle.mm_fragment.proofs.LinkTrees.{In, within_in, in_within, preorder_each, preorder_ascends, node_under, node_whole}
 use Rattle.mm_fragment.proofs.FlatKept.{at, tops, outdone, thinned, kept_preorder}
 use Rattle.mm_fragment.proofs.FlatRebuild.{name_label, not_front}

@@ -1,9 +1,10 @@
 -- The nodes with words are those on the paths to the nodes that hold a word themselves.
 use Rattle.std.proofs.Common.{inl, inr, ◌≡◌, ◌⊎◌, ℕ, ◌+◌, Bool, true, false, ◌||◌, cond, List, [], ◌∷◌, ◌++◌, map, refl, ap, sym, subst, ◌∙◌}
 use Rattle.std.specs.List.{filter}
+use Rattle.std.proofs.lemmas.Bool.{or_cases, or_left, or_right}
 use Rattle.mm_label.specs.Label.{whole}
 use Rattle.mm_match.specs.declared.mark.Mark.{Mark}
-use Rattle.mm_match.specs.Fronts.{Label, Front, Meets}
+use Rattle.mm_label.specs.Fronts.{Label, Front, Meets}
 use Rattle.mm_match.specs.Marks.{labels}
 use Rattle.mm_tree.specs.Trees.{Trees, none, node, preorder}
 use Rattle.mm_tree.specs.Search.{has, holds}
@@ -11,25 +12,13 @@ use Rattle.mm_tree.specs.Fragments.{Named, bare, bares, row_of, some}
 use Rattle.mm_fragment.proofs.LinkFormed.{Formed}
 use Rattle.mm_fragment.specs.Marked.{Rowed}
 use Rattle.mm_fragment.specs.Matching.{marks_of, matches_of}
-use Rattle.mm_fragment.proofs.FrontLaws.{front_refl}
+use Rattle.mm_label.specs.Facts.Fronts.{front_refl}
 use Rattle.mm_fragment.proofs.LinkTrees.{In, in_cases, in_first, in_second, node_under}
 use Rattle.mm_fragment.proofs.FlatRebuild.{name_label}
 use Rattle.mm_fragment.proofs.MarkedOpen.{with_words}
 
 abbrev pub Word : Type 0
 Word = List ℕ
-
-pub or_cases : (a b : Bool) → (a || b) ≡ true → (a ≡ true) ⊎ (b ≡ true)
-or_cases true b e = inl refl
-or_cases false b e = inr e
-
-pub or_left : (a b : Bool) → a ≡ true → (a || b) ≡ true
-or_left true b e = refl
-or_left false b e = absurd cc
-
-pub or_right : (a b : Bool) → b ≡ true → (a || b) ≡ true
-or_right true b e = refl
-or_right false b e = e
 
 -- one of these nodes, at or below x, holds a word of the query itself
 pub record HasMatch (x : Label) (query : List Word) (es : List Named) : Type 0 where

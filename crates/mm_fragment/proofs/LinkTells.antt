@@ -2,7 +2,8 @@
 use Rattle.std.proofs.Common.{inl, inr, ◌≡◌, ◌⊎◌, Bool, true, false, ◌||◌, cond, List, [], ◌∷◌, ◌++◌, refl, ap, sym, subst, ◌∙◌, Some}
 use Rattle.std.specs.Prelude.{◌↔◌}
 use Rattle.std.specs.List.{Contains}
-use Rattle.mm_match.specs.Fronts.{Label, Front, Within}
+use Rattle.std.proofs.lemmas.Bool.{or_cases, or_left, or_right}
+use Rattle.mm_label.specs.Fronts.{Label, Front, Within}
 use Rattle.mm_tree.specs.Trees.{Trees, Tree, none, node}
 use Rattle.mm_tree.specs.Numbering.{Labelled}
 use Rattle.mm_tree.specs.Edits as edits
@@ -15,13 +16,13 @@ use Rattle.mm_tree.specs.Owners.{SmallestAreExclusive, ExclusiveAreFull}
 use Rattle.mm_fragment.proofs.LinkFormed.{ApartFrom, Formed}
 use Rattle.mm_fragment.specs.Matching.{Reaches, TellsAll}
 use Rattle.mm_fragment.specs.Telling.{SmallestTell, ExclusiveTell}
-use Rattle.mm_fragment.proofs.Ties.{contains_of, within_of, front_of}
-use Rattle.mm_fragment.proofs.Below.{within_joined}
+use Rattle.mm_label.specs.Facts.Lists.{contains_of, within_of, within_joined, own_cases, own_of}
+use Rattle.mm_label.specs.Facts.Order.{front_of}
 use Rattle.mm_fragment.proofs.Subtree.{apart_common, within_left, within_right, worded_as}
 use Rattle.mm_fragment.proofs.Open.{bares_named}
-use Rattle.mm_fragment.proofs.FrontLaws.{front_refl, front_trans, front_antisym}
+use Rattle.mm_label.specs.Facts.Fronts.{front_refl, front_trans, front_antisym}
 use Rattle.mm_fragment.proofs.LinkForest.{node_label, forest_formed}
-use Rattle.mm_fragment.proofs.LinkPaths.{Word, or_cases, or_left, or_right}
+use Rattle.mm_fragment.proofs.LinkPaths.{Word}
 use Rattle.mm_fragment.proofs.MarkedOpen.{full_above}
 
 -- ---- nodes with their children
@@ -135,19 +136,11 @@ inside_full query d e low inner s h = elim s [
       (λ w a. or_right (has (worded_as e) w) (holds w (worded inner)) (stands_holds w inner d low k a)) h
 ]
 
-own_cases : (b : Bool) (x m : Label) → Within m (cond b (x ∷ []) []) → (b ≡ true) × (m ≡ x)
-own_cases true x m h = elim h [ inl k ↦ (refl, k) | inr k ↦ absurd k ]
-own_cases false x m h = absurd h
-
-own_of : (b : Bool) (x : Label) → b ≡ true → Within x (cond b (x ∷ []) [])
-own_of true x e = inl refl
-own_of false x e = absurd cc
-
 full_listed : (query : List Word) (f : Trees Labelled) (d : Labelled) (low : Trees Labelled) → Stands d low f → is_full query (worded_as d) (worded low) ≡ true → Within d.label (full_nodes query (worded f))
 full_listed query none d low s h = absurd s
 full_listed query (node e inner rest) d low s h = elim s [
   | inl k ↦ within_left d.label (mine e inner) (full_nodes query (worded inner) ++ full_nodes query (worded rest))
-      (subst (λ (x : Label). Within x (mine e inner)) (sym (ap node_label k.0)) (own_of (is_full query (worded_as e) (worded inner)) e.label (inside_full query d e low inner (inl k) h)))
+      (subst (λ (x : Label). Within x (mine e inner)) (sym (ap node_label k.0)) (own_of (is_full query (worded_as e) (worded inner)) e.label e.label (inside_full query d e low inner (inl k) h) refl))
   | inr k ↦ within_right d.label (mine e inner) (full_nodes query (worded inner) ++ full_nodes query (worded rest)) (elim k [
     | inl q ↦ within_left d.label (full_nodes query (worded inner)) (full_nodes query (worded rest)) (full_listed query inner d low q h)
     | inr q ↦ within_right d.label (full_nodes query (worded inner)) (full_nodes query (worded rest)) (full_listed query rest d low q h)

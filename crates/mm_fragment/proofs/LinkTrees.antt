@@ -1,22 +1,16 @@
 -- Where the nodes of well-formed trees lie.
-use Rattle.std.proofs.Common.{inl, inr, ◌≡◌, ◌⊎◌, Bool, true, false, ◌&&◌, ◌||◌, List, [], ◌∷◌, ◌++◌, map, refl, ap, ap₂, sym, subst, ◌∙◌}
+use Rattle.std.proofs.Common.{inl, inr, ◌≡◌, ◌⊎◌, Bool, true, false, ◌||◌, List, [], ◌∷◌, ◌++◌, map, refl, ap, ap₂, sym, subst, ◌∙◌}
 use Rattle.std.specs.List.{list_any}
+use Rattle.std.proofs.lemmas.Bool.{or_right}
 use Rattle.mm_label.specs.Label.{whole}
-use Rattle.mm_match.specs.Fronts.{Label, Front, Apart, Within, Ascends, Lt, parent}
+use Rattle.mm_label.specs.Fronts.{Label, Front, Apart, Within, Ascends, Lt, parent}
 use Rattle.mm_tree.specs.Trees.{Trees, none, node, preorder}
 use Rattle.mm_fragment.proofs.LinkFormed.{ApartFrom, Formed}
 use Rattle.mm_fragment.specs.Marked.{each}
-use Rattle.mm_fragment.proofs.FrontLaws.{front_refl, front_trans, front_antisym, front_le, apart_below, below_apart}
+use Rattle.mm_label.specs.Facts.Fronts.{front_refl, front_trans, front_antisym, front_le, apart_below, below_apart}
+use Rattle.mm_label.specs.Facts.Lists.{apart_lt}
 
 -- ---- tests
-
-pub both : (p q : Bool) → (p && q) ≡ true → (p ≡ true) × (q ≡ true)
-both true q e = (refl, e)
-both false q e = absurd cc
-
-pub both_of : (p q : Bool) → p ≡ true → q ≡ true → (p && q) ≡ true
-both_of true q e f = f
-both_of false q e f = absurd cc
 
 pub clash : (b : Bool) → b ≡ true → b ≡ false → ⊥
 clash b p q = absurd cc
@@ -53,10 +47,6 @@ any_at t p (x ∷ xs) w h = elim w [
   | inl e ↦ ap (λ (b : Bool). b || list_any t xs) (ap t (sym e) ∙ h)
   | inr k ↦ or_right (t x) (list_any t xs) (any_at t p xs k h)
 ]
-  where
-    or_right : (a b : Bool) → b ≡ true → (a || b) ≡ true
-    or_right true b e = refl
-    or_right false b e = e
 
 pub any_none : {A : Type 0} (t : A → Bool) (xs : List A) → ((p : A) → In p xs → t p ≡ true → ⊥) → list_any t xs ≡ false
 any_none t xs h = by (list_any t xs) refl
@@ -136,9 +126,6 @@ node_apart {A} at a y (node m inner rest) p u r w = elim w [
 ]
 
 -- ---- in document order
-
-pub apart_lt : (a b : Label) → Apart a b → Lt a b
-apart_lt a b p = (p.0, λ e. p.1 (subst (Front a) e (front_refl a)))
 
 pub ascends_joined : {A : Type 0} (at : A → Label) (xs ys : List A) → Ascends (map at xs) → Ascends (map at ys) → ((u r : A) → In u xs → In r ys → Lt (at u) (at r)) → Ascends (map at (xs ++ ys))
 ascends_joined at [] ys g h f = h

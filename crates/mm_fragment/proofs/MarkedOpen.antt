@@ -1,14 +1,16 @@
 -- The siblings that aren't full, and what is marked below them.
 use Rattle.std.proofs.Common.{inl, inr, ◌≡◌, ℕ, Bool, true, false, not, ◌&&◌, ◌||◌, cond, List, [], ◌∷◌, ◌++◌, refl, ap, ap₂, sym, subst, ◌∙◌}
 use Rattle.std.specs.List.{list_any}
-use Rattle.mm_match.specs.Fronts.{Label}
+use Rattle.std.proofs.Math.Bool.{or-true}
+use Rattle.std.proofs.lemmas.Bool.{or_parts, and_parts, and_from}
+use Rattle.mm_label.specs.Fronts.{Label}
 use Rattle.mm_tree.specs.Trees.{Trees, none, node, preorder}
 use Rattle.mm_tree.specs.Search.{Worded, has, holds, is_full, some_full}
 use Rattle.mm_tree.specs.Fragments.{Named, bare, bares, row_of, some, less}
 use Rattle.mm_fragment.proofs.LinkFormed.{ApartFrom, Formed}
 use Rattle.mm_fragment.specs.Marked.{Rowed, each, marked, rows_in, pruned}
 use Rattle.mm_fragment.specs.Matching.{outside_full}
-use Rattle.mm_fragment.proofs.LinkTrees.{In, in_cases, in_first, in_second, both, both_of}
+use Rattle.mm_fragment.proofs.LinkTrees.{In, in_cases, in_first, in_second}
 use Rattle.mm_fragment.proofs.FlatRebuild.{name_label}
 
 abbrev pub row_label : Rowed → Label
@@ -16,16 +18,12 @@ row_label m = m.entry.label
 
 -- ---- a node with a full child is full
 
-or_true : (a : Bool) → (a || true) ≡ true
-or_true true = refl
-or_true false = refl
-
 pub full_above : (query : List (List ℕ)) (e d : Worded) (inner low : Trees Worded) → ((w : List ℕ) → (has d w || holds w low) ≡ true → (has e w || holds w inner) ≡ true)
     → is_full query d low ≡ true → is_full query e inner ≡ true
 full_above [] e d inner low up h = refl
 full_above (w ∷ query) e d inner low up h =
-    let b = both (has d w || holds w low) (is_full query d low) h in
-    both_of (has e w || holds w inner) (is_full query e inner) (up w b.0) (full_above query e d inner low up b.1)
+    let b = and_parts (has d w || holds w low) (is_full query d low) h in
+    and_from (has e w || holds w inner) (is_full query e inner) (up w b.0) (full_above query e d inner low up b.1)
 
 first_holds : (w : List ℕ) (d : Worded) (low rest : Trees Worded) → (has d w || holds w low) ≡ true → holds w (node d low rest) ≡ true
 first_holds w d low rest = by (has d w) (holds w low)
@@ -39,14 +37,14 @@ above_some : (query : List (List ℕ)) (e : Worded) (inner trees : Trees Worded)
     → some_full query trees ≡ true → is_full query e inner ≡ true
 above_some query e inner none up h = absurd cc
 above_some query e inner (node d low rest) up h =
-    by (is_full query d low) refl h (above_some query e inner rest (λ w a. up w (ap (λ b. has d w || (holds w low || b)) a ∙ ap (λ b. has d w || b) (or_true (holds w low)) ∙ or_true (has d w))))
+    by (is_full query d low) refl h (above_some query e inner rest (λ w a. up w (ap (λ b. has d w || (holds w low || b)) a ∙ ap (λ b. has d w || b) (or-true (holds w low)) ∙ or-true (has d w))))
   where
     by : (b : Bool) → is_full query d low ≡ b → (b || some_full query rest) ≡ true → (some_full query rest ≡ true → is_full query e inner ≡ true) → is_full query e inner ≡ true
     by true f k later = full_above query e d inner low (λ w a. up w (first_holds w d low rest a)) f
     by false f k later = later k
 
 full_of_child : (query : List (List ℕ)) (e : Worded) (inner : Trees Worded) → some_full query inner ≡ true → is_full query e inner ≡ true
-full_of_child query e inner = above_some query e inner inner (λ w a. ap (λ b. has e w || b) a ∙ or_true (has e w))
+full_of_child query e inner = above_some query e inner inner (λ w a. ap (λ b. has e w || b) a ∙ or-true (has e w))
 
 none_below : (query : List (List ℕ)) (e : Worded) (inner : Trees Worded) → is_full query e inner ≡ false → some_full query inner ≡ false
 none_below query e inner f = by (some_full query inner) refl
@@ -54,10 +52,6 @@ none_below query e inner f = by (some_full query inner) refl
     by : (t : Bool) → some_full query inner ≡ t → some_full query inner ≡ false
     by true h = let k = full_of_child query e inner h in absurd cc
     by false h = h
-
-neither : (a b : Bool) → (a || b) ≡ false → (a ≡ false) × (b ≡ false)
-neither true b e = absurd cc
-neither false b e = (refl, e)
 
 -- ---- without the full ones among the siblings
 
@@ -83,7 +77,7 @@ with_words query (node e inner rest) =
 none_full : (query : List (List ℕ)) (f : Trees Named) → some_full query (bares f) ≡ false → marked query f ≡ with_words query f
 none_full query none h = refl
 none_full query (node e inner rest) h =
-    let n = neither (is_full query (bare e) (bares inner)) (some_full query (bares rest)) h in
+    let n = or_parts (is_full query (bare e) (bares inner)) (some_full query (bares rest)) h in
     let low = none_full query inner (none_below query (bare e) (bares inner) n.0) in
     let later = none_full query rest n.1 in
     ap (λ (t : Bool). cond (not t && some (row_of query e inner)) (node (record { entry = e; row = row_of query e inner }) (marked query inner) (marked query rest)) (marked query rest)) n.0

@@ -3,7 +3,8 @@ use Rattle.std.proofs.Common.{inl, inr, ◌≡◌, Bool, true, false, cond, List
 use Rattle.std.specs.Prelude.{if◌then◌else◌, map, filter}
 use Rattle.std.proofs.lemmas.List.{map-append}
 use Rattle.std.proofs.lemmas.List.Elements.{filter-append}
-use Rattle.mm_lists.specs.Fronts.{Label, Word, Front, Lt, Within, Ascends, Rising}
+use Rattle.mm_label.specs.Fronts.{Label, Front, Lt, Within, Ascends, IsChild}
+use Rattle.mm_lists.specs.Full.{Word, Rising}
 use Rattle.mm_label.specs.Label.{whole}
 use Rattle.mm_tree.specs.Trees.{Trees, none, node, Tree, preorder}
 use Rattle.mm_tree.specs.Numbering.{Labelled}
@@ -11,15 +12,16 @@ use Rattle.mm_tree.specs.Search.{Worded, has, is_full, list_of, worded}
 use Rattle.mm_tree.specs.Fragments.{Named, named, named_as, bare, bares}
 use Rattle.mm_fragment.specs.Matching.{Reaches, TellsAll, outside_full}
 use Rattle.mm_fragment.specs.Bound.{full_count}
-use Rattle.mm_fragment.specs.Children.{IsChild, IsFullChild}
+use Rattle.mm_fragment.specs.Children.{IsFullChild}
 use Rattle.mm_fragment.specs.Gathering.{full_list, open_list, IsAsked}
 use Rattle.mm_fragment.specs.Showing.{named_in}
-use Rattle.mm_fragment.proofs.Formed.{WellFormed}
-use Rattle.mm_fragment.proofs.FrontLaws.{front_refl, front_antisym, below_apart}
-use Rattle.mm_fragment.proofs.Below.{NodeOf, node_below, node_after, within_joined}
-use Rattle.mm_fragment.proofs.Listed.{listed_node, list_ascends, ascends_joined, apart_lt, lt_below}
-use Rattle.mm_fragment.proofs.Kids.{same_child}
-use Rattle.mm_fragment.proofs.Segments.{formed}
+use Rattle.mm_lists.specs.Formed.{WellFormed}
+use Rattle.mm_label.specs.Facts.Fronts.{front_refl, front_antisym, below_apart}
+use Rattle.mm_lists.specs.Facts.Below.{NodeOf, node_below, node_after}
+use Rattle.mm_label.specs.Facts.Lists.{within_joined, ascends_joined, apart_lt, lt_below, own_cases, own_of}
+use Rattle.mm_lists.specs.Facts.Listed.{listed_node, list_ascends}
+use Rattle.mm_label.specs.Facts.Children.{same_child}
+use Rattle.mm_lists.specs.Facts.Formed.{formed}
 use Rattle.mm_fragment.proofs.Subtree.{Holder, IsAt, found_at, list_node, node_list, holder_front, within_left, within_right, apart_common, worded_as}
 
 -- trees without names are trees as searches see them
@@ -65,14 +67,10 @@ tree_list w e inner =
 abbrev pub Clear : List Label → Label → Type 0
 Clear ks m = (k : Label) → Within k ks → Front k m → ⊥
 
-own_full : (b : Bool) (x m : Label) → Within m (cond b (x ∷ []) []) → (b ≡ true) × (m ≡ x)
-own_full true x m h = elim h [ inl k ↦ (refl, k) | inr k ↦ absurd k ]
-own_full false x m h = absurd h
-
 full_node : (query : List Word) (k : Label) (f : Trees Named) → Within k (full_list query f) → NodeOf k (bares f)
 full_node query k none h = absurd h
 full_node query k (node e inner rest) h = elim (within_joined k (cond (is_full query (bare e) (bares inner)) (e.label ∷ []) []) (full_list query rest) h) [
-  | inl p ↦ inl (own_full (is_full query (bare e) (bares inner)) e.label k p).1
+  | inl p ↦ inl (own_cases (is_full query (bare e) (bares inner)) e.label k p).1
   | inr p ↦ inr (inr (full_node query k rest p))
 ]
 
@@ -157,7 +155,7 @@ full_rises y query (node e inner rest) g = by (is_full query (bare e) (bares inn
 full_child : (y k : Label) (query : List Word) (f : Trees Named) → WellFormed y (bares f) → Within k (full_list query f) → IsChild y k
 full_child y k query none g h = absurd h
 full_child y k query (node e inner rest) g h = elim (within_joined k (cond (is_full query (bare e) (bares inner)) (e.label ∷ []) []) (full_list query rest) h) [
-  | inl p ↦ subst (IsChild y) (sym (own_full (is_full query (bare e) (bares inner)) e.label k p).1) g.0
+  | inl p ↦ subst (IsChild y) (sym (own_cases (is_full query (bare e) (bares inner)) e.label k p).1) g.0
   | inr p ↦ full_child y k query rest g.3 p
 ]
 
@@ -173,13 +171,9 @@ full_length query (node e inner rest) = by (is_full query (bare e) (bares inner)
 reached : (k : Label) (answers : List Label) (query : List Word) (f : Trees Named) → TellsAll answers query f → Within k (full_list query f) → Reaches k answers
 reached k answers query none t h = absurd h
 reached k answers query (node e inner rest) t h = elim (within_joined k (cond (is_full query (bare e) (bares inner)) (e.label ∷ []) []) (full_list query rest) h) [
-  | inl p ↦ let q = own_full (is_full query (bare e) (bares inner)) e.label k p in subst (λ (z : Label). Reaches z answers) (sym q.1) (t.0.0 q.0)
+  | inl p ↦ let q = own_cases (is_full query (bare e) (bares inner)) e.label k p in subst (λ (z : Label). Reaches z answers) (sym q.1) (t.0.0 q.0)
   | inr p ↦ reached k answers query rest t.1 p
 ]
-
-own_back : (b : Bool) (x m : Label) → b ≡ true → m ≡ x → Within m (cond b (x ∷ []) [])
-own_back true x m e h = inl h
-own_back false x m e h = absurd cc
 
 -- a child above a node, with an answer at or below it, is one of the full ones
 told : (y m k : Label) (answers : List Label) (query : List Word) (f : Trees Named) → WellFormed y (bares f) → TellsAll answers query f → NodeOf m (bares f)
@@ -197,7 +191,7 @@ told y m k answers query (node e inner rest) g t n c h r = elim n [
     here f =
         let s : k ≡ e.label = same_child y m k e.label c h g.0 f in
         within_left k (cond (is_full query (bare e) (bares inner)) (e.label ∷ []) []) (full_list query rest)
-        (own_back (is_full query (bare e) (bares inner)) e.label k (t.0.1 (subst (λ (z : Label). Reaches z answers) s r)) s)
+        (own_of (is_full query (bare e) (bares inner)) e.label k (t.0.1 (subst (λ (z : Label). Reaches z answers) s r)) s)
 
 -- ---- below the root
 
@@ -223,10 +217,10 @@ opens x trees e inner w query answers s a t =
     let below : (m : Label) → Within m later → Front x m × (m ≡ x → ⊥) = λ m h. node_below x m (bares inner) g (listed_node w m (bares inner) (p.from m h).0) in
     record {
       is_whole = subst (λ (z : Label). whole z ≡ z) (sym s) a.is_whole;
-      ascends = ascends_joined first later (one_rises (has (bare e) w)) p.ascends (λ u r h q. let k = below r q in subst (λ (z : Label). Lt z r) (sym ((own_full (has (bare e) w) e.label u h).1 ∙ sym s)) (lt_below x r k.0 k.1));
+      ascends = ascends_joined first later (one_rises (has (bare e) w)) p.ascends (λ u r h q. let k = below r q in subst (λ (z : Label). Lt z r) (sym ((own_cases (has (bare e) w) e.label u h).1 ∙ sym s)) (lt_below x r k.0 k.1));
       from = λ m h. elim (within_joined m first later h) [
         | inl q ↦
-            let r = own_full (has (bare e) w) e.label m q in (
+            let r = own_cases (has (bare e) w) e.label m q in (
               a.back w m (inl r),
               subst (Front x) (sym (r.1 ∙ sym s)) (front_refl x),
               own_clear x m query inner g (r.1 ∙ sym s),
@@ -234,7 +228,7 @@ opens x trees e inner w query answers s a t =
         | inr q ↦ let r = p.from m q in (a.back w m (inr r.0), (below m q).0, r.1)
       ];
       all = λ m h f c. elim (a.inside w m h f) [
-        | inl q ↦ within_left m first later (own_back (has (bare e) w) e.label m q.0 q.1)
+        | inl q ↦ within_left m first later (own_of (has (bare e) w) e.label m q.0 q.1)
         | inr q ↦ within_right m first later (p.all m q c)
       ];
       rising = full_rises x query inner g;

@@ -3,7 +3,8 @@ use Rattle.std.proofs.Common.{◌≡◌, ℕ, ◌+◌, ◌≤◌, List, [], ◌�
 use Rattle.std.specs.Prelude.{if◌then◌else◌, AllPairs, IsTrue}
 use Rattle.std.proofs.lemmas.List.{map-append, length-map}
 use Rattle.mm_label.specs.Label.{whole, IsBefore}
-use Rattle.mm_lists.specs.Fronts.{Label, Word, Front, is_front}
+use Rattle.mm_label.specs.Fronts.{Label, Front, is_front}
+use Rattle.mm_lists.specs.Full.{Word}
 use Rattle.mm_lists.specs.Lists.{IsRight, IsNext, IsRightPast}
 use Rattle.mm_match.specs.declared.mark.Mark.{Mark}
 use Rattle.mm_tree.specs.Trees.{Trees, Tree}
@@ -17,9 +18,9 @@ use Rattle.mm_fragment.specs.Children.{IsFullChild}
 use Rattle.mm_fragment.specs.Gathering.{IsAsked, Walked, WalkedBelow, Passes, full_list, open_list, open_holders, marked_with, within}
 use Rattle.mm_fragment.specs.Matching.{Tells, marks_of, open_nodes}
 use Rattle.mm_fragment.specs.Showing.{named_in}
-use Rattle.mm_fragment.proofs.FrontLaws.{front_yes, front_no}
-use Rattle.mm_fragment.proofs.Listed.{listed_whole}
-use Rattle.mm_fragment.proofs.Segments.{formed}
+use Rattle.mm_label.specs.Facts.Fronts.{front_yes, front_no}
+use Rattle.mm_lists.specs.Facts.Listed.{listed_whole}
+use Rattle.mm_lists.specs.Facts.Formed.{formed}
 use Rattle.mm_fragment.proofs.Open.{opens_of, full_length}
 use Rattle.mm_fragment.proofs.Walks.{walk_right, walk_take, walk_skip, walk_ended, walk_bound, walk_room}
 

@@ -1,18 +1,20 @@
 -- The tree at a label of a well-formed forest.
 use Rattle.std.proofs.Common.{inl, inr, ◌≡◌, ◌⊎◌, Bool, true, false, cond, List, [], ◌∷◌, ◌++◌, refl, sym, subst, Some}
 use Rattle.std.specs.Prelude.{if◌then◌else◌}
-use Rattle.mm_lists.specs.Fronts.{Label, Word, Front, Apart, Within}
+use Rattle.mm_label.specs.Fronts.{Label, Front, Apart, Within}
+use Rattle.mm_lists.specs.Full.{Word}
 use Rattle.mm_label.specs.Label.{whole}
 use Rattle.mm_tree.specs.Trees.{Trees, none, node, Tree}
 use Rattle.mm_tree.specs.Numbering.{Labelled}
 use Rattle.mm_tree.specs.Search.{Worded, has, list_of, worded, own}
 use Rattle.mm_tree.specs.Edits.{found, has_label}
 use Rattle.mm_tree.specs.Edits as edits
-use Rattle.mm_fragment.proofs.Formed.{WellFormed}
-use Rattle.mm_fragment.proofs.FrontLaws.{front_refl, front_trans, front_antisym, fronts_of_one, front_le, le_antisym}
-use Rattle.mm_fragment.proofs.Below.{NodeOf, node_below, node_after, within_joined}
-use Rattle.mm_fragment.proofs.Listed.{listed_node}
-use Rattle.mm_fragment.proofs.Kids.{same_label}
+use Rattle.mm_lists.specs.Formed.{WellFormed}
+use Rattle.mm_label.specs.Facts.Fronts.{front_refl, front_trans, front_antisym, fronts_of_one, front_le, le_antisym}
+use Rattle.mm_lists.specs.Facts.Below.{NodeOf, node_below, node_after}
+use Rattle.mm_label.specs.Facts.Lists.{within_joined, own_cases, own_of}
+use Rattle.mm_lists.specs.Facts.Listed.{listed_node}
+use Rattle.mm_label.specs.Facts.Order.{same_label}
 
 pub within_left : (x : Label) (front back : List Label) → Within x front → Within x (front ++ back)
 within_left x [] back w = absurd w
@@ -34,14 +36,6 @@ apart_common a b m p f g = elim (fronts_of_one a b m f g) [
 -- m is the label of a node that holds the word: the root, or one below it
 abbrev pub Holder : Word → Label → Worded → Trees Worded → Type 0
 Holder w m e inner = ((has e w ≡ true) × (m ≡ e.label)) ⊎ Within m (list_of w inner)
-
-own_cases : (b : Bool) (x m : Label) → Within m (cond b (x ∷ []) []) → (b ≡ true) × (m ≡ x)
-own_cases true x m h = elim h [ inl k ↦ (refl, k) | inr k ↦ absurd k ]
-own_cases false x m h = absurd h
-
-own_of : (b : Bool) (x m : Label) → b ≡ true → m ≡ x → Within m (cond b (x ∷ []) [])
-own_of true x m e h = inl h
-own_of false x m e h = absurd cc
 
 pub list_node : (w : Word) (m : Label) (e : Worded) (inner rest : Trees Worded) → Within m (list_of w (node e inner rest)) → Holder w m e inner ⊎ Within m (list_of w rest)
 list_node w m e inner rest h = elim (within_joined m (cond (has e w) (e.label ∷ []) []) (list_of w inner ++ list_of w rest) h) [

@@ -1,19 +1,17 @@
 -- A walk over the list of a word below a root takes each free label and passes each full child once.
 use Rattle.std.proofs.Common.{inl, inr, ◌≡◌, ◌⊎◌, ℕ, ◌+◌, ◌≤◌, List, [], ◌∷◌, ◌++◌, refl, sym, subst, ap, ◌∙◌, Option, Some, None, arith, length, length-append, append_assoc}
-use Rattle.mm_lists.specs.Fronts.{Label, Front, Le, Lt, Apart, Within, Ascends, Rising}
+use Rattle.mm_label.specs.Fronts.{Label, Front, Le, Lt, Apart, Within, Ascends}
+use Rattle.mm_lists.specs.Full.{Rising}
 use Rattle.mm_lists.specs.Lists.{IsRight, IsNext, IsRightPast}
 use Rattle.mm_fragment.specs.Gathering.{StandsAt, StandsPast, Walked}
-use Rattle.mm_fragment.proofs.FrontLaws.{front_refl, front_le, le_trans, le_antisym, between_front, apart_trans, below_apart}
-use Rattle.mm_fragment.proofs.Ties.{before_lt, lt_before, le_before, le_of, past_apart, apart_past, contains_of, within_of}
-use Rattle.mm_fragment.proofs.Below.{front_cases, within_joined}
+use Rattle.mm_label.specs.Facts.Fronts.{front_le, le_trans, le_antisym, between_front, apart_trans, below_apart, front_cases}
+use Rattle.mm_label.specs.Facts.Order.{before_lt, lt_before, le_before, le_of, past_apart, apart_past}
+use Rattle.mm_label.specs.Facts.Lists.{contains_of, within_of, within_joined}
 use Rattle.mm_fragment.proofs.Subtree.{within_right}
 use Rattle.mm_fragment.proofs.Open.{Opens, Clear}
 
 lt_trans : (a b c : Label) → Lt a b → Le b c → Lt a c
 lt_trans a b c p q = (le_trans a b c p.0 q, λ e. p.1 (le_antisym a b p.0 (subst (Le b) (sym e) q)))
-
-apart_lt : (a b : Label) → Apart a b → Lt a b
-apart_lt a b p = (p.0, λ e. p.1 (subst (Front a) e (front_refl a)))
 
 apart_later : (k a b : Label) → Apart k a → Le a b → Apart k b
 apart_later k a b p l = (le_trans k a b p.0 l, λ f. p.1 (between_front k a b p.0 l f))

@@ -4,7 +4,7 @@ use Rattle.std.specs.Prelude.{filter}
 use Rattle.std.proofs.Math.Nat.{two-pow-succ, mul-le-mul_right}
 use Rattle.std.proofs.Math.Pow.{pow-lt}
 use Rattle.std.proofs.lemmas.List.{take_more, drop_all, take-append-drop}
-use Rattle.mm_lists.specs.Fronts.{Word}
+use Rattle.mm_lists.specs.Full.{Word}
 use Rattle.mm_match.specs.declared.mark.Mark.{Mark}
 use Rattle.mm_tree.specs.Search.{has}
 use Rattle.mm_tree.specs.Fragments.{Named, bare}

@@ -1,15 +1,7 @@
 -- The children of a node on the way to nodes below it, and which of them are full.
-use Rattle.std.specs.Prelude.{Bool, false, List, ◌≡◌, ◌⊎◌, Option, Some, None}
-use Rattle.mm_label.specs.Label.{whole}
-use Rattle.mm_lists.specs.Fronts.{Label, Front, is_front}
+use Rattle.std.specs.Prelude.{Bool, false, List, Option, Some, None}
+use Rattle.mm_label.specs.Fronts.{Label, Front, is_front, IsChild}
 use Rattle.mm_fragment.specs.Matching.{Reaches}
-
--- x is y and one segment
-pub record IsChild (y x : Label) : Type 0 where
-  pub below : Front y x
-  pub is_whole : whole x ≡ x
-  pub longer : x ≡ y → ⊥
-  pub one : (z : Label) → whole z ≡ z → Front z x → Front z y ⊎ (z ≡ x)
 
 -- the child of x at or above m at or below which there is an answer, or None where there is none
 abbrev pub IsFullChild : Label → List Label → Label → Option Label → Type 0

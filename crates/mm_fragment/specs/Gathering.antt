@@ -1,7 +1,7 @@
 -- The gathering of the matches below a node.
 use Rattle.std.specs.Prelude.{ℕ, ℤ, ◌+◌, ◌≤◌, List, [], ◌∷◌, ◌++◌, ◌≡◌, map, filter, length, Option, Some, None, AllPairs, IsTrue, if◌then◌else◌}
 use Rattle.mm_label.specs.Label.{IsBefore}
-use Rattle.mm_lists.specs.Fronts.{Label, is_front, Le, Lt, Apart, Within}
+use Rattle.mm_label.specs.Fronts.{Label, is_front, Le, Lt, Apart, Within}
 use Rattle.mm_match.specs.declared.mark.Mark.{Mark}
 use Rattle.mm_tree.specs.Trees.{Trees, none, node, Tree}
 use Rattle.mm_tree.specs.Numbering.{Labelled}

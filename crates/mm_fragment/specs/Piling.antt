@@ -1,6 +1,6 @@
 -- Fragments on a stack, the first of them in document order last.
 use Rattle.std.specs.Prelude.{ℕ, true, false, List, [], ◌∷◌, ◌++◌, ◌≡◌, map, reverse, Option, Some, None}
-use Rattle.mm_lists.specs.Fronts.{Label, is_front}
+use Rattle.mm_label.specs.Fronts.{Label, is_front}
 use Rattle.mm_match.specs.declared.mark.Mark.{Mark}
 use Rattle.mm_tree.specs.declared.fragment.Fragment.{Fragment}
 use Rattle.mm_tree.specs.Trees.{Trees}

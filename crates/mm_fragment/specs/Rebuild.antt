@@ -1,6 +1,6 @@
 -- Trees from their nodes in document order, each node standing below those whose labels are fronts of its own.
 use Rattle.std.specs.Prelude.{ℤ, pos, List, [], ◌∷◌, ◌≡◌, refl, if◌then◌else◌}
-use Rattle.mm_match.specs.Fronts.{is_front}
+use Rattle.mm_label.specs.Fronts.{is_front}
 use Rattle.mm_tree.specs.Trees.{Trees, none, node, preorder}
 use Rattle.mm_tree.specs.Fragments.{Named}
 

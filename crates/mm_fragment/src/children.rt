@@ -2,14 +2,13 @@
 
 ghost use Rattle.std.specs.Prelude.{◌≡◌, ◌↔◌, IfOk, AllPairs, IsTrue};
 ghost use Rattle.mm_label.specs.Label.{IsBefore, whole};
-ghost use Rattle.std.specs.List.Sorted.{IsPartitionPoint};
-ghost use Rattle.mm_lists.specs.Lists.{IsAtOrBefore};
-ghost use Rattle.mm_lists.specs.Fronts.{Front, is_front};
-ghost use Rattle.mm_fragment.specs.Children.{IsChild, IsFullChild};
+ghost use Rattle.mm_label.specs.Fronts.{Front};
+ghost use Rattle.mm_fragment.specs.Children.{IsFullChild};
 ghost use Rattle.mm_fragment.specs.Matching.{Reaches};
 
 use mm_label::Label;
 use mm_list::at as item_at;
+use mm_lists::{child_to, count_before};
 use std::alloc::{AllocError, Global};
 
 /// The root of a fragment, and answers in document order, which tell which of its children are full: those
@@ -20,42 +19,13 @@ pub struct Root<'a> {
     pub answers: &'a [Label],
 }
 
-/// Whether the first is an ancestor of the second or the same.
-pub fn is_front(a: &Label, b: &Label) -> bool
-    ensures { result ≡ is_front a.now b.now }
-{
-    a.is_prefix(b)
-}
-
-/// The child of x that is t or above it. t lies below x.
-fn child_to(alloc: Global, x: &Label, t: &Label) -> Result<Label, AllocError>
-    ensures child { whole x.now ≡ x.now → whole t.now ≡ t.now → Front x.now t.now → (t.now ≡ x.now → ⊥) → IfOk result (λ k. IsChild x.now k) }
-    ensures above { whole x.now ≡ x.now → whole t.now ≡ t.now → Front x.now t.now → (t.now ≡ x.now → ⊥) → IfOk result (λ k. Front k t.now) }
-{
-    let mut kid = t.copy(alloc)?;
-    while let Some(up) = kid.parent(alloc)? {
-        if up == *x {
-            return Ok(kid);
-        }
-        kid = up;
-    }
-    Ok(kid)
-}
-
-/// How many of the labels come before the one.
-fn count_before(list: &[Label], at: &Label) -> usize
-    ensures { AllPairs IsBefore list.now → IsPartitionPoint (λ m. IsBefore m at.now) (λ m. IsAtOrBefore at.now m) list.now result }
-{
-    list.partition_point(|m| m < at)
-}
-
 /// Whether one of the labels, which stand in document order, lies at or below x.
 fn reaches(x: &Label, answers: &[Label]) -> bool
     ensures { AllPairs IsBefore answers.now → (IsTrue result ↔ Reaches x.now answers.now) }
 {
     // Where any does, the first at or after x does.
     match item_at(answers, count_before(answers, x)) {
-        Some(first) => is_front(x, first),
+        Some(first) => x.is_prefix(first),
         None => false,
     }
 }

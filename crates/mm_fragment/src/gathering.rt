@@ -1,17 +1,17 @@
 //! The matches below a root: for each word of the query the nodes that hold it themselves, but those at or
 //! below a full child of the root.
 
-ghost use Rattle.std.specs.Prelude.{◌≡◌, ◌↔◌, ◌+◌, ◌*◌, ◌^◌, ◌≤◌, ◌<◌, ◌++◌, ℕ, ℤ, List, Some, IfOk, IfErr, OnOk, length};
+ghost use Rattle.std.specs.Prelude.{◌≡◌, ◌↔◌, ◌+◌, ◌^◌, ◌≤◌, ◌<◌, ◌++◌, ℕ, ℤ, List, Some, IfOk, IfErr, OnOk, length};
 ghost use Rattle.mm_tree.specs.Trees.{Tree, Trees};
 ghost use Rattle.mm_tree.specs.Numbering.{Labelled};
 ghost use Rattle.mm_lists.specs.Causes.{Caused, IsSound};
-ghost use Rattle.mm_lists.specs.Fronts.{Front};
+ghost use Rattle.mm_label.specs.Fronts.{Front};
 ghost use Rattle.mm_fragment.specs.Bound.{cost_of, full_count, holders};
 ghost use Rattle.mm_fragment.specs.Gathering.{IsAsked, Passes, WalkedBelow, open_holders, within};
 ghost use Rattle.mm_fragment.specs.Matching.{marks_of, matches_of, open_nodes};
 ghost use Rattle.mm_fragment.specs.Showing.{named_in};
 
-use crate::children::{Root, full_child, is_front};
+use crate::children::{Root, full_child};
 use mm_host::Fault;
 use mm_label::Label;
 use mm_list::Items;
@@ -28,7 +28,7 @@ fn within(root: &Label, at: Option<Label>) -> Option<Label>
 {
     match at {
         Some(label) => {
-            if is_front(root, &label) {
+            if root.is_prefix(&label) {
                 Some(label)
             } else {
                 None

@@ -9,7 +9,6 @@ ghost use Rattle.mm_fragment.specs.Piling.{TakesBelow, TakesOff, piled, shown_al
 ghost use Rattle.mm_fragment.specs.Rebuild.{rebuild};
 ghost use Rattle.mm_fragment.specs.Showing.{shown_at};
 
-use crate::children::is_front;
 use crate::showing::show;
 use mm_label::Label;
 use mm_list::Items;
@@ -25,7 +24,7 @@ fn take_one(x: &Label, stack: &mut Items<Fragment>) -> Result<Option<Fragment>, 
     let Some(top) = stack.pop() else {
         return Ok(None);
     };
-    if is_front(x, &top.label) {
+    if x.is_prefix(&top.label) {
         return Ok(Some(top));
     }
     stack.push(top)?;

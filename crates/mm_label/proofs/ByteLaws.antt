@@ -1,18 +1,13 @@
 -- The three laws of the bytes of labels.
-use Rattle.std.proofs.Common.{◌≡◌, ℕ, Bool, true, false, ◌&&◌, IsTrue, List, [], ◌∷◌, ◌++◌, nat_cmp, int_cmp, Ordering, Less, Equal, Greater, refl, sym, ap, ap₂, ◌∙◌, ℤ, pos, negsuc, append_assoc}
+use Rattle.std.proofs.Common.{◌≡◌, ℕ, true, IsTrue, List, [], ◌∷◌, ◌++◌, nat_cmp, int_cmp, Ordering, Less, Equal, Greater, refl, sym, ap, ap₂, ◌∙◌, ℤ, pos, negsuc, append_assoc}
 use Rattle.std.specs.Cmp.Lexicographic.{slice_cmp}
 use Rattle.std.specs.Ordering.{ordering_then}
-use Rattle.std.proofs.lemmas.Bool.{ltb-true}
+use Rattle.std.proofs.lemmas.Bool.{ltb-true, and_parts}
 use Rattle.std.proofs.lemmas.Cmp.{nat_list_cmp_total, tied_itself}
 use Rattle.std.proofs.lemmas.Map.Lookups.{exact_bytes, exact_signed}
-use Rattle.mm_label.specs.Bytes.{rank, spell}
+use Rattle.mm_label.specs.Bytes.{rank, spell, bytes_of}
 use Rattle.mm_label.specs.Label.{is_in_range, all_in_range, IsAncestorOrSelf, IsPrefix}
-use Rattle.mm_label.specs.Bytes.{bytes_of}
 use Rattle.mm_label.proofs.Order.{IsInRange, rank_below, spell_order, spelling_begins}
-
-pub both : (a b : Bool) → (a && b) ≡ true → (a ≡ true) × (b ≡ true)
-both true b e = (refl, e)
-both false b e = absurd cc
 
 pub in_range_is : (c : ℤ) → is_in_range c ≡ true → IsInRange c
 in_range_is (pos n) h = ltb-true n 4294975552 h
@@ -27,10 +22,10 @@ empty_greater c h xs = let s = spelling_begins (rank c) (rank_below c h) in ap (
 -- byte order is label order
 pub same_order : (a b : List ℤ) → IsTrue (all_in_range a) → IsTrue (all_in_range b) → slice_cmp nat_cmp (bytes_of a) (bytes_of b) ≡ slice_cmp int_cmp a b
 same_order [] [] h k = refl
-same_order [] (d ∷ b) h k = empty_less d (in_range_is d (both (is_in_range d) (all_in_range b) k).0) (bytes_of b)
-same_order (c ∷ a) [] h k = empty_greater c (in_range_is c (both (is_in_range c) (all_in_range a) h).0) (bytes_of a)
+same_order [] (d ∷ b) h k = empty_less d (in_range_is d (and_parts (is_in_range d) (all_in_range b) k).0) (bytes_of b)
+same_order (c ∷ a) [] h k = empty_greater c (in_range_is c (and_parts (is_in_range c) (all_in_range a) h).0) (bytes_of a)
 same_order (c ∷ a) (d ∷ b) h k =
-    let p = both (is_in_range c) (all_in_range a) h in let q = both (is_in_range d) (all_in_range b) k in
+    let p = and_parts (is_in_range c) (all_in_range a) h in let q = and_parts (is_in_range d) (all_in_range b) k in
     spell_order c d (in_range_is c p.0) (in_range_is d q.0) (bytes_of a) (bytes_of b) ∙ ap (λ o. ordering_then (int_cmp c d) o) (same_order a b p.1 q.1)
 
 then_equal : (a b : Ordering) → ordering_then a b ≡ Equal → (a ≡ Equal) × (b ≡ Equal)
@@ -51,9 +46,9 @@ nonempty c h xs e = let s = spelling_begins (rank c) (rank_below c h) in let f :
 -- where the bytes of a are at the front of those of b, a is at the front of b
 pub front_from_bytes : (a b : List ℤ) (zs : List ℕ) → IsTrue (all_in_range a) → IsTrue (all_in_range b) → bytes_of b ≡ bytes_of a ++ zs → (rest : List ℤ) × (b ≡ a ++ rest)
 front_from_bytes [] b zs h k e = (b, refl)
-front_from_bytes (c ∷ a) [] zs h k e = absurd (nonempty c (in_range_is c (both (is_in_range c) (all_in_range a) h).0) (bytes_of a ++ zs) (sym (append_assoc (spell c) (bytes_of a) zs) ∙ sym e))
+front_from_bytes (c ∷ a) [] zs h k e = absurd (nonempty c (in_range_is c (and_parts (is_in_range c) (all_in_range a) h).0) (bytes_of a ++ zs) (sym (append_assoc (spell c) (bytes_of a) zs) ∙ sym e))
 front_from_bytes (c ∷ a) (d ∷ b) zs h k e =
-    let p = both (is_in_range c) (all_in_range a) h in let q = both (is_in_range d) (all_in_range b) k in
+    let p = and_parts (is_in_range c) (all_in_range a) h in let q = and_parts (is_in_range d) (all_in_range b) k in
     let t = cancel d c (in_range_is d q.0) (in_range_is c p.0) (bytes_of b) (bytes_of a ++ zs) (e ∙ append_assoc (spell c) (bytes_of a) zs) in
     let r = front_from_bytes a b zs p.1 q.1 t.1 in
     (r.0, ap₂ (λ x zs. x ∷ zs) t.0 r.1)
@@ -69,9 +64,9 @@ same_front a b h k = (λ f. front_from_bytes a b f.0 h k f.1, λ f. (bytes_of f.
 -- bytes spell at most one list of components
 pub spelled_once : (a b : List ℤ) → IsTrue (all_in_range a) → IsTrue (all_in_range b) → bytes_of a ≡ bytes_of b → a ≡ b
 spelled_once [] [] h k e = refl
-spelled_once [] (d ∷ b) h k e = absurd (nonempty d (in_range_is d (both (is_in_range d) (all_in_range b) k).0) (bytes_of b) (sym e))
-spelled_once (c ∷ a) [] h k e = absurd (nonempty c (in_range_is c (both (is_in_range c) (all_in_range a) h).0) (bytes_of a) e)
+spelled_once [] (d ∷ b) h k e = absurd (nonempty d (in_range_is d (and_parts (is_in_range d) (all_in_range b) k).0) (bytes_of b) (sym e))
+spelled_once (c ∷ a) [] h k e = absurd (nonempty c (in_range_is c (and_parts (is_in_range c) (all_in_range a) h).0) (bytes_of a) e)
 spelled_once (c ∷ a) (d ∷ b) h k e =
-    let p = both (is_in_range c) (all_in_range a) h in let q = both (is_in_range d) (all_in_range b) k in
+    let p = and_parts (is_in_range c) (all_in_range a) h in let q = and_parts (is_in_range d) (all_in_range b) k in
     let t = cancel c d (in_range_is c p.0) (in_range_is d q.0) (bytes_of a) (bytes_of b) e in
     ap₂ (λ x zs. x ∷ zs) t.0 (spelled_once a b p.1 q.1 t.1)

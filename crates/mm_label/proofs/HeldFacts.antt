@@ -1,23 +1,21 @@
 -- What a label's bytes tell of its components.
 use Rattle.std.specs.Prelude.{Result, Ok, Err, Vec, IfOk}
 use Rattle.std.specs.Global.{Global}
-use Rattle.std.proofs.Common.{◌-◌}
+use Rattle.std.proofs.Common.{◌-◌, ◌⊎◌, inl, inr, ◌≡◌, ◌≢◌, ℕ, ◌+◌, ◌<◌, ◌≤◌, Bool, true, false, not, ◌&&◌, IsTrue, ◌↔◌, List, [], ◌∷◌, ◌++◌, length, take, drop, eqb, nat_cmp, int_cmp, int_eq, refl, sym, ap, ap₂, subst, ◌∙◌, arith, ℤ, pos, negsuc, get_or, append_assoc, append-nil, zero-add, count_by, cond, get_or-append-add, MatchBool, Some, None, length-append, take_at}
 use Rattle.std.proofs.Math.Seq.{take-length}
 use Rattle.std.proofs.lemmas.List.{drop_at}
 use Rattle.std.proofs.lemmas.List.Sums.{count_by-le-length, sum_by-append}
-use Rattle.std.proofs.Common.{◌⊎◌, inl, inr, ◌≡◌, ◌≢◌, ℕ, ◌+◌, ◌<◌, ◌≤◌, Bool, true, false, not, ◌&&◌, IsTrue, ◌↔◌, List, [], ◌∷◌, ◌++◌, length, take, drop, eqb, nat_cmp, int_cmp, int_eq, refl, sym, ap, ap₂, subst, ◌∙◌, arith, ℤ, pos, negsuc, get_or, append_assoc, append-nil, zero-add, count_by, cond, get_or-append-add, MatchBool, Some, None, length-append, take_at}
 use Rattle.std.specs.Cmp.Lexicographic.{slice_cmp, pointwise}
 use Rattle.std.specs.List.{starts_with}
-use Rattle.std.proofs.lemmas.Bool.{eqb-true}
+use Rattle.std.proofs.lemmas.Bool.{eqb-true, and_parts, and_from}
 use Rattle.std.proofs.lemmas.Bool.Decides.{Decides-eqb, Decides-int_eq, same_from_decides, Decides-like}
 use Rattle.std.proofs.lemmas.Slice.Eq.{starts_is, slice_eq-Decides}
-use Rattle.mm_label.specs.Bytes.{spell}
+use Rattle.mm_label.specs.Facts.Levels.{level-cons}
+use Rattle.mm_label.specs.Bytes.{spell, bytes_of}
 use Rattle.mm_label.specs.Label.{IsLabel, IsAncestorOrSelf, all_in_range, is_in_range, is_odd, last_odd, is_segment, is_empty, level, IsSegment, IsLastSegment, IsParent}
-use Rattle.mm_label.specs.Bytes.{bytes_of}
-use Rattle.mm_label.specs.Reading.{component_at, components, Found}
-use Rattle.mm_label.specs.Reading.{IsSpelled, StartsLastSegment}
+use Rattle.mm_label.specs.Reading.{component_at, components, Found, IsSpelled, StartsLastSegment}
 use Rattle.mm_label.proofs.Order.{IsInRange}
-use Rattle.mm_label.proofs.ByteLaws.{both, in_range_is, same_order, front_from_bytes, spelled_once, bytes_of-append}
+use Rattle.mm_label.proofs.ByteLaws.{in_range_is, same_order, front_from_bytes, spelled_once, bytes_of-append}
 use Rattle.mm_label.proofs.Readback.{yes, components_again, read_again, read_takes, spells_some}
 
 -- the bytes are those of the value
@@ -67,9 +65,6 @@ pub last_odd-append : (b : Bool) (cs : List ℤ) (c : ℤ) → last_odd b (cs ++
 last_odd-append b [] c = refl
 last_odd-append b (d ∷ cs) c = last_odd-append (is_odd d) cs c
 
-and_true : (a b : Bool) → a ≡ true → b ≡ true → (a && b) ≡ true
-and_true a b e f = rw (e, f) refl
-
 is_in_range_is : (c : ℤ) → IsInRange c → is_in_range c ≡ true
 is_in_range_is (pos n) h = yes n 4294975552 h
 is_in_range_is (negsuc n) h = yes n 4294975552 h
@@ -77,7 +72,7 @@ is_in_range_is (negsuc n) h = yes n 4294975552 h
 pub all_in_range-append : (a b : List ℤ) → IsTrue (all_in_range a) → IsTrue (all_in_range b) → IsTrue (all_in_range (a ++ b))
 all_in_range-append [] b h k = k
 all_in_range-append (c ∷ a) b h k =
-    let p = both (is_in_range c) (all_in_range a) h in and_true (is_in_range c) (all_in_range (a ++ b)) p.0 (all_in_range-append a b p.1 k)
+    let p = and_parts (is_in_range c) (all_in_range a) h in and_from (is_in_range c) (all_in_range (a ++ b)) p.0 (all_in_range-append a b p.1 k)
 
 pub spells_none : (bytes : List ℕ) → SpelledSoFar bytes bytes false
 spells_none bytes = record { front = []; parts = refl; in_range = refl; odd_is = refl }
@@ -89,7 +84,7 @@ spells_more bytes rest after b odd c t e o s =
       front = s.front ++ c ∷ [];
       parts = s.parts ∙ ap (λ zs. bytes_of s.front ++ zs) r.parts ∙ sym (append_assoc (bytes_of s.front) (spell c) after)
           ∙ ap (λ zs. (bytes_of s.front ++ zs) ++ after) (sym (append-nil (spell c))) ∙ ap (λ zs. zs ++ after) (sym (bytes_of-append s.front (c ∷ [])));
-      in_range = all_in_range-append s.front (c ∷ []) s.in_range (and_true (is_in_range c) true (is_in_range_is c r.in_range) refl);
+      in_range = all_in_range-append s.front (c ∷ []) s.in_range (and_from (is_in_range c) true (is_in_range_is c r.in_range) refl);
       odd_is = o ∙ sym (last_odd-append false s.front c);
     }
 
@@ -114,12 +109,12 @@ stops bytes rest b s ne none cs h e =
   where
     all_of : (a b : List ℤ) → IsTrue (all_in_range (a ++ b)) → IsTrue (all_in_range b)
     all_of [] b h = h
-    all_of (c ∷ a) b h = all_of a b (both (is_in_range c) (all_in_range (a ++ b)) h).1
+    all_of (c ∷ a) b h = all_of a b (and_parts (is_in_range c) (all_in_range (a ++ b)) h).1
 
     by_tail : (tail : List ℤ) → IsTrue (all_in_range tail) → bytes_of tail ≡ rest → ⊥
     by_tail [] h e = ne (sym e)
     by_tail (c ∷ tail) h e =
-        let k : none_found ≡ Some (c, bytes_of tail) = sym none ∙ ap component_at (sym e) ∙ read_again c (bytes_of tail) (in_range_is c (both (is_in_range c) (all_in_range tail) h).0) in cc
+        let k : none_found ≡ Some (c, bytes_of tail) = sym none ∙ ap component_at (sym e) ∙ read_again c (bytes_of tail) (in_range_is c (and_parts (is_in_range c) (all_in_range tail) h).0) in cc
 
 -- the whole bytes
 pub spells_all : (bytes rest : List ℕ) (odd : Bool) → SpelledSoFar bytes rest odd → rest ≡ [] → odd ≡ true → length bytes ≤ 512 → IsSpelled bytes
@@ -183,7 +178,7 @@ counted_bound bytes rest n h s =
     long_front : (cs : List ℤ) → IsTrue (all_in_range cs) → length cs ≤ length (bytes_of cs)
     long_front [] h = omega arith
     long_front (c ∷ cs) h =
-        let p = both (is_in_range c) (all_in_range cs) h in
+        let p = and_parts (is_in_range c) (all_in_range cs) h in
         omega (arith, long_front cs p.1, spells_some c (in_range_is c p.0), length-append (spell c) (bytes_of cs))
 
 is_nil_or_not : (xs : List ℕ) → (xs ≡ []) ⊎ (xs ≢ [])
@@ -255,7 +250,7 @@ even_push : (seg : List ℤ) (c : ℤ) (t : Bool) → is_odd c ≡ t → all_eve
 even_push [] c true e h = rw e refl
 even_push [] c false e h = rw e refl
 even_push (d ∷ seg) c t e h =
-    let p = both (not (is_odd d)) (all_even seg) h in more t (is_odd d) p.0 (even_push seg c t e p.1)
+    let p = and_parts (not (is_odd d)) (all_even seg) h in more t (is_odd d) p.0 (even_push seg c t e p.1)
   where
     more : (t o : Bool) → not o ≡ true → is_open t (seg ++ c ∷ []) ≡ true → cond t (cond o (is_empty (seg ++ c ∷ [])) (is_segment (seg ++ c ∷ []))) (not o && all_even (seg ++ c ∷ [])) ≡ true
     more t true n k = absurd cc
@@ -308,12 +303,12 @@ cutting_odd bytes rest after cut now odd c t e o n s =
     }
 
 even_last : (b : Bool) (d : ℤ) (ds : List ℤ) → all_even (d ∷ ds) ≡ true → last_odd b (d ∷ ds) ≡ false
-even_last b d [] h = not_is (is_odd d) (both (not (is_odd d)) true h).0
+even_last b d [] h = not_is (is_odd d) (and_parts (not (is_odd d)) true h).0
   where
     not_is : (o : Bool) → not o ≡ true → o ≡ false
     not_is true e = absurd cc
     not_is false e = refl
-even_last b d (c ∷ ds) h = even_last (is_odd d) c ds (both (not (is_odd d)) (all_even (c ∷ ds)) h).1
+even_last b d (c ∷ ds) h = even_last (is_odd d) c ds (and_parts (not (is_odd d)) (all_even (c ∷ ds)) h).1
 
 even_behind : (b : Bool) (front : List ℤ) (d : ℤ) (ds : List ℤ) → all_even (d ∷ ds) ≡ true → last_odd b (front ++ d ∷ ds) ≡ false
 even_behind b [] d ds h = even_last b d ds h
@@ -357,7 +352,7 @@ cut_facts bytes n h k =
 
 pub front_all : (a b : List ℤ) → IsTrue (all_in_range (a ++ b)) → IsTrue (all_in_range a)
 front_all [] b h = refl
-front_all (c ∷ a) b h = let p = both (is_in_range c) (all_in_range (a ++ b)) h in and_true (is_in_range c) (all_in_range a) p.0 (front_all a b p.1)
+front_all (c ∷ a) b h = let p = and_parts (is_in_range c) (all_in_range (a ++ b)) h in and_from (is_in_range c) (all_in_range a) p.0 (front_all a b p.1)
 
 pub parent_label : (bytes : List ℕ) (n : ℕ) → IsSpelled bytes → (k : StartsLastSegment bytes n) → n ≢ 0 → IsLabel k.front
 parent_label bytes n h k ne = by_before k.last.before
@@ -376,9 +371,6 @@ parent_made bytes cut n h k ne e =
     let p : cut ≡ bytes_of k.front = e ∙ (cut_facts bytes n h k).taken in
     record { spelled = subst IsSpelled (sym p) (spelled_is k.front l); same = ap components p ∙ components_again k.front l.in_range; label = l }
 
-pub level-cons : (c : ℤ) (cs : List ℤ) → level (c ∷ cs) ≡ cond (is_odd c) 1 0 + level cs
-level-cons c cs = sum_by-append (λ x. cond (is_odd x) 1 0) (c ∷ []) cs ∙ ap (λ k. k + level cs) (zero-add (cond (is_odd c) 1 0))
-
 -- one segment is one level
 pub one_level : (seg : List ℤ) → is_segment seg ≡ true → level seg ≡ 1
 one_level [] h = absurd cc
@@ -394,7 +386,7 @@ no_parent bytes n a h k z v = by_front k.front k.last k.size (front_all k.front 
   where
     by_front : (front : List ℤ) → IsLastSegment (components bytes) front k.seg → n ≡ length (bytes_of front) → IsTrue (all_in_range front) → level a ≡ 1
     by_front [] l s r = ap level (sym v ∙ l.parts) ∙ one_level k.seg l.one
-    by_front (c ∷ cs) l s r = absurd (let p = spells_some c (in_range_is c (both (is_in_range c) (all_in_range cs) r).0) in omega (arith, s, z, p, length-append (spell c) (bytes_of cs)))
+    by_front (c ∷ cs) l s r = absurd (let p = spells_some c (in_range_is c (and_parts (is_in_range c) (all_in_range cs) r).0) in omega (arith, s, z, p, length-append (spell c) (bytes_of cs)))
 
 pub parent_gives : (bytes cut : List ℕ) (n : ℕ) (a : List ℤ) → IsSpelled bytes → (k : StartsLastSegment bytes n) → n ≢ 0 → cut ≡ take n bytes → components bytes ≡ a → IsParent (components cut) a
 parent_gives bytes cut n a h k ne e v =
@@ -410,7 +402,7 @@ parent_gives bytes cut n a h k ne e v =
 
 back_all : (a b : List ℤ) → IsTrue (all_in_range (a ++ b)) → IsTrue (all_in_range b)
 back_all [] b h = h
-back_all (c ∷ a) b h = back_all a b (both (is_in_range c) (all_in_range (a ++ b)) h).1
+back_all (c ∷ a) b h = back_all a b (and_parts (is_in_range c) (all_in_range (a ++ b)) h).1
 
 pub record ReadsSegment (a x : List ℤ) : Type 0 where
   pub front : List ℤ

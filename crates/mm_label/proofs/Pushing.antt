@@ -2,11 +2,10 @@
 use Rattle.std.proofs.Common.{◌≡◌, ◌≢◌, ℕ, ◌-◌, ◌≤◌, List, ◌∷◌, ◌++◌, length, get_or, take, drop, ℤ, pos, Bool, true, false, cond, int_eq, refl, sym, ap, ap₂, ◌∙◌, append_assoc, Result, Ok, Err, OnOk, Option, IsTrue, subst, ◌<◌, ◌+◌, drop-cons, add-one}
 use Rattle.std.proofs.lemmas.Slice.{first_rest}
 use Rattle.std.proofs.lemmas.Bool.Decides.{Decides-int_eq}
-use Rattle.mm_label.specs.Bytes.{rank, spelling, spell}
-use Rattle.mm_label.specs.Bytes.{bytes_of}
+use Rattle.std.proofs.lemmas.Bool.{and_parts}
+use Rattle.mm_label.specs.Bytes.{rank, spelling, spell, bytes_of}
 use Rattle.mm_label.specs.Label.{is_in_range, all_in_range}
 use Rattle.mm_label.specs.Between.{apart, inside, one_or_two}
-use Rattle.mm_label.proofs.ByteLaws.{both}
 
 pub cut_first : (cs : List ℤ) → 1 ≤ length cs → cs ≡ get_or cs 0 (pos 0) ∷ take (length cs - 1) (drop 1 cs)
 cut_first cs h = first_rest cs (pos 0) h
@@ -17,7 +16,7 @@ pub pushed_next : (cs : List ℤ) (i : ℕ) (out new start : List ℕ) (n : ℕ)
 pushed_next cs i out new start n h f g s =
     let x = get_or cs i (pos 0) in let rest = drop (i + 1) cs in
     let e : drop i cs ≡ x ∷ rest = drop-cons cs i (pos 0) h ∙ ap (λ k. x ∷ drop k cs) (sym (add-one i)) in (
-      (both (is_in_range x) (all_in_range rest) (subst (λ zs. IsTrue (all_in_range zs)) e s.0)).1,
+      (and_parts (is_in_range x) (all_in_range rest) (subst (λ zs. IsTrue (all_in_range zs)) e s.0)).1,
       ap (λ zs. zs ++ bytes_of rest) (g ∙ ap (λ k. out ++ spelling k) f) ∙ append_assoc out (spell x) (bytes_of rest) ∙ ap (λ zs. out ++ bytes_of zs) (sym e) ∙ s.1,
     )
 

@@ -1,13 +1,11 @@
 -- A component that is read is the one that was spelled, and what was spelled is read again.
-use Rattle.std.proofs.Common.{◌⊎◌, inl, inr, ◌≡◌, ℕ, zero, suc, ◌+◌, ◌-◌, ◌*◌, ◌/◌, ◌%◌, ◌<◌, ◌≤◌, Bool, true, false, cond, IsTrue, List, [], ◌∷◌, ◌++◌, length, refl, sym, ap, subst, ◌∙◌, arith, ltb, ℤ, pos, negsuc, append_assoc, zero-add, Option, Some, None, get_or}
-use Rattle.std.proofs.lemmas.Bool.{cases_lt}
+use Rattle.std.proofs.Common.{◌⊎◌, inl, inr, ◌≡◌, ℕ, zero, suc, ◌+◌, ◌-◌, ◌*◌, ◌/◌, ◌%◌, ◌<◌, ◌≤◌, Bool, true, false, cond, IsTrue, List, [], ◌∷◌, ◌++◌, length, refl, sym, ap, subst, ◌∙◌, arith, ltb, ℤ, pos, negsuc, append_assoc, zero-add, Option, Some, None, get_or, length-append}
+use Rattle.std.proofs.lemmas.Bool.{cases_lt, and_parts}
 use Rattle.std.proofs.lemmas.Bool.Decides.{nat_tests}
-use Rattle.mm_label.specs.Bytes.{rank, one, two, five, split, spelling, spell}
+use Rattle.mm_label.specs.Bytes.{rank, one, two, five, split, spelling, spell, bytes_of}
 use Rattle.mm_label.specs.Label.{is_in_range, all_in_range}
-use Rattle.mm_label.specs.Bytes.{bytes_of}
 use Rattle.mm_label.specs.Reading.{of_rank, Found, low_at, four_at, component_at, then_from, components_from, components}
-use Rattle.std.proofs.Common.{length-append}
-use Rattle.mm_label.proofs.ByteLaws.{both, in_range_is}
+use Rattle.mm_label.proofs.ByteLaws.{in_range_is}
 use Rattle.mm_label.proofs.Order.{spelling_begins, IsInRange, rank_below, split_low, split_high}
 
 pub yes : (n k : ℕ) → n < k → ltb n k ≡ true
@@ -243,12 +241,12 @@ none_left (suc n) = refl
 pub again_from : (n : ℕ) (cs : List ℤ) → IsTrue (all_in_range cs) → length (bytes_of cs) ≤ n → components_from n (bytes_of cs) ≡ cs
 again_from n [] h le = none_left n
 again_from zero (c ∷ cs) h le =
-    absurd (let k = spells_some c (in_range_is c (both (is_in_range c) (all_in_range cs) h).0) in let e = length-append (spell c) (bytes_of cs) in too_long (length (spell c)) (length (bytes_of cs)) k (subst (λ m. m ≤ 0) e le))
+    absurd (let k = spells_some c (in_range_is c (and_parts (is_in_range c) (all_in_range cs) h).0) in let e = length-append (spell c) (bytes_of cs) in too_long (length (spell c)) (length (bytes_of cs)) k (subst (λ m. m ≤ 0) e le))
   where
     too_long : (a b : ℕ) → 1 ≤ a → a + b ≤ 0 → ⊥
     too_long a b p q = omega arith
 again_from (suc n) (c ∷ cs) h le =
-    let p = both (is_in_range c) (all_in_range cs) h in let r = in_range_is c p.0 in
+    let p = and_parts (is_in_range c) (all_in_range cs) h in let r = in_range_is c p.0 in
     ap (λ x. then_from x (λ rest. components_from n rest)) (read_again c (bytes_of cs) r)
     ∙ ap (λ zs. c ∷ zs) (again_from n cs p.1 (shorter (length (spell c)) (length (bytes_of cs)) n (spells_some c r) (subst (λ m. m ≤ suc n) (length-append (spell c) (bytes_of cs)) le)))
   where

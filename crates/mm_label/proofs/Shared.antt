@@ -1,10 +1,11 @@
 -- The longest common front of two labels, and their bytes.
 use Rattle.std.proofs.Common.{◌⊎◌, inl, inr, ◌≡◌, ◌≢◌, ℕ, ◌-◌, ◌<◌, ◌≤◌, Bool, true, false, cond, IsTrue, ◌↔◌, List, [], ◌∷◌, ◌++◌, length, take, int_eq, refl, sym, ap, ap₂, subst, ◌∙◌, arith, ℤ, get_or, append_assoc, append-nil, Some, None, length-append, take_at}
 use Rattle.std.proofs.lemmas.Bool.Decides.{Decides-int_eq}
+use Rattle.std.proofs.lemmas.Bool.{and_parts}
 use Rattle.mm_label.specs.Bytes.{spell, bytes_of}
 use Rattle.mm_label.specs.Label.{IsLabel, IsAncestorOrSelf, all_in_range, is_in_range, is_odd, last_odd, common_front, onto_whole, whole, lca}
 use Rattle.mm_label.specs.Reading.{component_at, components, Found, IsSpelled}
-use Rattle.mm_label.proofs.ByteLaws.{both, in_range_is, bytes_of-append}
+use Rattle.mm_label.proofs.ByteLaws.{in_range_is, bytes_of-append}
 use Rattle.mm_label.proofs.Readback.{spells_some, components_more, components_none}
 use Rattle.mm_label.proofs.HeldFacts.{step_parts, front_all, IsMade, made_is}
 
@@ -96,7 +97,7 @@ some_components : (z : List ℤ) → IsLabel z → z ≢ []
 some_components [] h e = let k : false ≡ true = h.ends_odd in cc
 some_components (c ∷ z) h e = cc
 
--- a label is at or above both exactly where it is at or above their lowest common ancestor
+-- a label is at or above and_parts exactly where it is at or above their lowest common ancestor
 pub common_ancestors : (a b z : List ℤ) → IsLabel z → (IsAncestorOrSelf z a × IsAncestorOrSelf z b) ↔ IsAncestorOrSelf z (lca a b)
 common_ancestors a b z h = (
   λ f. (
@@ -110,7 +111,7 @@ common_ancestors a b z h = (
 
 no_bytes : (cs : List ℤ) → IsTrue (all_in_range cs) → length (bytes_of cs) ≡ 0 → cs ≡ []
 no_bytes [] h e = refl
-no_bytes (c ∷ cs) h e = absurd (omega (arith, e, spells_some c (in_range_is c (both (is_in_range c) (all_in_range cs) h).0), length-append (spell c) (bytes_of cs)))
+no_bytes (c ∷ cs) h e = absurd (omega (arith, e, spells_some c (in_range_is c (and_parts (is_in_range c) (all_in_range cs) h).0), length-append (spell c) (bytes_of cs)))
 
 lca_in_range : (a b : List ℤ) → IsTrue (all_in_range a) → IsTrue (all_in_range (lca a b))
 lca_in_range a b h = let f = lca_left a b in front_all (lca a b) f.0 (subst (λ zs. IsTrue (all_in_range zs)) f.1 h)
@@ -139,9 +140,9 @@ lca_made x cut n a b h e m ne t =
     made_is (lca a b) cut (record { in_range = lca_in_range a b l.in_range; ends_odd = o; short = s })
     (t ∙ ap (λ zs. take n zs) p ∙ take_at (bytes_of (lca a b)) (bytes_of f.0) n (sym m))
 
--- ---- walking down both
+-- ---- walking down and_parts
 
--- the front of both up to the rests, and how many bytes its whole segments take
+-- the front of and_parts up to the rests, and how many bytes its whole segments take
 pub record Shared (a b left right : List ℕ) (n : ℕ) : Type 0 where
   pub front : List ℤ
   pub parts : a ≡ bytes_of front ++ left

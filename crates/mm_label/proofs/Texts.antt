@@ -8,8 +8,8 @@ use Rattle.std.specs.List.{slice_split}
 use Rattle.std.specs.Fmt.{signed_decimal, decimal}
 use Rattle.std.specs.Str.Parse.{AllDigits, ParsesSigned}
 use Rattle.std.proofs.Math.Facts.{sfits_lit}
-use Rattle.std.proofs.lemmas.Bool.{ltb-true}
-use Rattle.std.proofs.lemmas.Bool.Decides.{nat_tests}
+use Rattle.std.proofs.lemmas.Bool.{ltb-true, and_parts}
+use Rattle.std.proofs.lemmas.Bool.Decides.{nat_tests, Decides-eqb}
 use Rattle.std.proofs.lemmas.Fmt.{decimal_is_IsNumeral, parse-signed_decimal, signed_decimal_injective}
 use Rattle.std.proofs.lemmas.List.Elements.{All-nil, All-cons}
 use Rattle.std.proofs.lemmas.List.Splits.{slice_split_none, slice_split_at}
@@ -17,13 +17,11 @@ use Rattle.std.proofs.lemmas.Str.Parse.{digit_from_value}
 use lib.Signed.{mag}
 use mir.Val.{SFits}
 use Rattle.std.specs.Cmp.Lexicographic.{pointwise}
-use Rattle.std.proofs.lemmas.Bool.Decides.{Decides-eqb}
 use Rattle.std.proofs.lemmas.Slice.Eq.{slice_eq-Decides}
 use Rattle.mm_label.specs.Bytes.{bytes_of}
 use Rattle.mm_label.specs.Reading.{components}
 use Rattle.mm_label.specs.Label.{IsLabel, is_in_range, all_in_range}
 use Rattle.mm_label.specs.Text.{text_of, dotted, IsOnlyNumber, AreOnlyNumbers, IsOnlyReading}
-use Rattle.mm_label.proofs.ByteLaws.{both}
 use Rattle.mm_label.proofs.Readback.{yes, components_again}
 use Rattle.mm_label.proofs.HeldFacts.{all_in_range-append}
 
@@ -64,9 +62,9 @@ signed_stop (pos n) h = decimal_stop n (omega (arith, ltb-true n 4294975552 h))
 signed_stop (negsuc n) h = All-cons (λ b. is_stop b ≡ false) 45 (decimal (suc n)) refl (decimal_stop (suc n) (omega (arith, ltb-true n 4294975552 h)))
 
 split_text : (c : ℤ) (cs : List ℤ) → IsTrue (all_in_range (c ∷ cs)) → slice_split is_stop (text_of (c ∷ cs)) ≡ map signed_decimal (c ∷ cs)
-split_text c [] h = slice_split_none is_stop (signed_decimal c) (signed_stop c (both (is_in_range c) true h).0)
+split_text c [] h = slice_split_none is_stop (signed_decimal c) (signed_stop c (and_parts (is_in_range c) true h).0)
 split_text c (d ∷ cs) h =
-    let p = both (is_in_range c) (all_in_range (d ∷ cs)) h in
+    let p = and_parts (is_in_range c) (all_in_range (d ∷ cs)) h in
     slice_split_at is_stop (signed_decimal c) 46 (text_of (d ∷ cs)) (signed_stop c p.0) refl ∙ ap (λ zs. signed_decimal c ∷ zs) (split_text d cs p.1)
 
 split_label : (cs : List ℤ) → IsLabel cs → slice_split is_stop (text_of cs) ≡ map signed_decimal cs
@@ -85,7 +83,7 @@ same_components [] [] h k e = refl
 same_components [] (d ∷ b) h k e = absurd cc
 same_components (c ∷ a) [] h k e = absurd cc
 same_components (c ∷ a) (d ∷ b) h k e =
-    let p = both (is_in_range c) (all_in_range a) h in let q = both (is_in_range d) (all_in_range b) k in
+    let p = and_parts (is_in_range c) (all_in_range a) h in let q = and_parts (is_in_range d) (all_in_range b) k in
     let s = head_same (signed_decimal c) (signed_decimal d) (map signed_decimal a) (map signed_decimal b) e in
     ap₂ (λ x zs. x ∷ zs) (signed_decimal_injective c d (omega (arith, range_mag c p.0)) (omega (arith, range_mag d q.0)) s.0) (same_components a b p.1 q.1 s.1)
 
@@ -127,8 +125,8 @@ pub found_none : (texts : List (List ℕ)) → FoundSoFar texts texts []
 found_none texts = record { in_range = refl; only = λ cs h e. record { rest = cs; parts = refl; same = e } }
 
 middle_in_range : (found : List ℤ) (c : ℤ) (rest : List ℤ) → IsTrue (all_in_range (found ++ c ∷ rest)) → is_in_range c ≡ true
-middle_in_range [] c rest h = (both (is_in_range c) (all_in_range rest) h).0
-middle_in_range (d ∷ found) c rest h = middle_in_range found c rest (both (is_in_range d) (all_in_range (found ++ c ∷ rest)) h).1
+middle_in_range [] c rest h = (and_parts (is_in_range c) (all_in_range rest) h).0
+middle_in_range (d ∷ found) c rest h = middle_in_range found c rest (and_parts (is_in_range d) (all_in_range (found ++ c ∷ rest)) h).1
 
 pub found_more : (texts left : List (List ℕ)) (t : List ℕ) (found new : List ℤ) (n : ℤ) → IsOnlyNumber (Some n) t → new ≡ found ++ n ∷ [] → FoundSoFar texts (t ∷ left) found → FoundSoFar texts left new
 found_more texts left t found new n o e s = subst (λ zs. FoundSoFar texts left zs) (sym e) (record {

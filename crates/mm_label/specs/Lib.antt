@@ -4,3 +4,5 @@ pub mod Reading
 pub mod Between
 pub mod Text
 pub mod Answers
+pub mod Fronts
+pub mod Facts

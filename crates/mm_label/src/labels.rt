@@ -1,12 +1,13 @@
 //! Labels, held as their bytes.
 
-ghost use Rattle.std.specs.Prelude.{◌≡◌, ◌++◌, ◌≤◌, ◌↔◌, length, IsTrue, MatchBool, MatchOption, IfOk, IfErr, option_map, refl, List, ℤ, string_bytes, [], ◌<◌};
+ghost use Rattle.std.specs.Prelude.{◌≡◌, ◌++◌, ◌≤◌, ◌↔◌, length, IsTrue, MatchOption, IfOk, IfErr, option_map, refl, List, ℤ, string_bytes, [], ◌<◌};
 ghost use Rattle.std.specs.Ordering.{int_cmp, int_eq, as_partial_cmp};
 ghost use Rattle.std.specs.Cmp.{int_cmp_total, int_eq_equiv, partial_equiv_from_equiv, partial_order_from_agreeing_total};
 ghost use Rattle.std.specs.Cmp.Lexicographic.{lists_total, lists_equiv, lists_ties, pointwise, slice_cmp};
 ghost use Rattle.std.proofs.Common.{rules};
 ghost use Rattle.mm_label.specs.Bytes.{bytes_of};
 ghost use Rattle.mm_label.specs.Label.{IsLabel, IsAncestorOrSelf, IsParent, IsSegment, IsLastSegment, SpellsNoLabel, level, lca, all_in_range};
+ghost use Rattle.mm_label.specs.Fronts.{is_front};
 ghost use Rattle.mm_label.specs.Reading.{components};
 ghost use Rattle.mm_label.specs.Text.{text_of};
 ghost use Rattle.mm_label.specs.Answers.{RefusesLabel, RefusesText, front_of};
@@ -139,7 +140,8 @@ impl Label {
 
     /// Whether this label is the other one or an ancestor of it.
     pub fn is_prefix(&self, other: &Label) -> bool
-        ensures { IsTrue result ↔ IsAncestorOrSelf self.now other.now }
+        ensures ancestor { IsTrue result ↔ IsAncestorOrSelf self.now other.now }
+        ensures front { result ≡ is_front self.now other.now }
     {
         other.bytes.as_slice().starts_with(self.bytes.as_slice())
     }

@@ -7,6 +7,7 @@ ghost use Rattle.mm_label.specs.Bytes.{bytes_of};
 ghost use Rattle.mm_label.specs.Label.{IsLabel, IsAncestorOrSelf, IsPrefix, is_segment, lca};
 ghost use Rattle.mm_label.specs.Text.{text_of};
 ghost use Rattle.mm_label.specs.Between.{between, IsOrdered, LiesBetween};
+ghost use Rattle.mm_label.specs.Fronts.{Apart, Front, IsAtOrBefore, IsPast, Le};
 
 /// Byte order is label order.
 pub fn byte_order()
@@ -38,4 +39,19 @@ pub fn lies_between()
 /// an ancestor of it.
 pub fn lowest_common_ancestor()
     ensures { (a b z : List ℤ) → IsLabel z → (IsAncestorOrSelf z a × IsAncestorOrSelf z b) ↔ IsAncestorOrSelf z (lca a b) }
+{}
+
+/// A front of a label is an ancestor of it or the label itself.
+pub fn fronts_are_ancestors()
+    ensures { (a b : List ℤ) → Front a b ↔ IsAncestorOrSelf a b }
+{}
+
+/// The order by recursion is the order of labels.
+pub fn order_is_label_order()
+    ensures { (a b : List ℤ) → Le a b ↔ IsAtOrBefore a b }
+{}
+
+/// Lying apart is coming after all of the subtree.
+pub fn apart_is_past()
+    ensures { (a b : List ℤ) → Apart a b ↔ IsPast a b }
 {}

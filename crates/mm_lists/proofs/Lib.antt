@@ -1,13 +1,5 @@
-pub mod FrontLaws
-pub mod Ties
-pub mod Nearest
-pub mod Unique
-pub mod Candidates
-pub mod Segments
-pub mod Below
-pub mod Listed
 pub mod Shorter
 pub mod Gathering
 pub mod Lookups
 pub mod Refusing
-pub mod Keeping
+pub mod Kids

@@ -1,90 +1,27 @@
 -- A binary search of labels in document order finds the first and the last that are asked for.
-use Rattle.std.proofs.Common.{inl, inr, ◌≡◌, ◌⊎◌, ℕ, zero, suc, ◌+◌, ◌-◌, ◌<◌, ◌≤◌, Bool, true, false, ◌||◌, List, [], ◌∷◌, refl, ap, sym, subst, ◌∙◌, Option, Some, None, length, arith, Ordering, Less, Equal, Greater}
+use Rattle.std.proofs.Common.{inl, inr, ◌≡◌, ℕ, ◌+◌, ◌-◌, ◌<◌, ◌≤◌, Bool, true, false, List, [], ◌∷◌, ap, sym, subst, ◌∙◌, Option, Some, None, length, arith}
 use Rattle.std.specs.Prelude.{slice_index_or, slice_get, AllPairs}
 use Rattle.std.specs.List.{AllWithin}
 use Rattle.std.specs.List.Sorted.{IsPartitionedBy, IsPartitionPoint}
-use Rattle.std.specs.Ordering.{int_cmp, is_le, is_lt, is_eq, ordering_then, ordering_reverse}
-use Rattle.std.specs.Cmp.{int_cmp_total}
-use Rattle.std.specs.Cmp.Lexicographic.{slice_cmp, lists_total}
-use Rattle.std.proofs.lemmas.Cmp.{tied_itself}
-use Rattle.std.proofs.lemmas.Bool.{cases_lt}
-use Rattle.std.proofs.lemmas.Bool.Decides.{Decides-int_eq}
+use Rattle.std.specs.Ordering.{int_cmp, is_le, is_lt}
+use Rattle.std.specs.Cmp.Lexicographic.{slice_cmp}
+use Rattle.std.proofs.lemmas.Bool.{cases_lt, or_cases, or_left, or_right, or_parts}
 use Rattle.std.proofs.lemmas.List.Kept.{AllPairs-cons}
 use Rattle.mm_label.specs.Label.{IsBefore}
-use Rattle.mm_lists.specs.Fronts.{Label, Word, is_front, Ascends}
+use Rattle.mm_label.specs.Fronts.{Label, is_front, Ascends, IsAtOrBefore, IsPast}
+use Rattle.mm_lists.specs.Full.{Word}
 use Rattle.std.specs.BTreeMap.{BTreeMap}
 use Rattle.mm_tree.specs.Trees.{Trees}
 use Rattle.mm_tree.specs.Numbering.{Labelled}
 use Rattle.mm_tree.specs.Search.{list_of, worded}
 use Rattle.mm_lists.specs.Memory.{is_through, list_in, AreOf}
-use Rattle.mm_lists.specs.Lists.{IsAtOrBefore, IsPast, IsFirst, IsLast, IsLeft, IsRight, IsNext, IsRightPast}
-use Rattle.mm_lists.proofs.FrontLaws.{front_yes, front_no, is_front_of, le_total, between_front}
-use Rattle.mm_lists.proofs.Ties.{before_lt, le_before, lt_before, front_of, ancestor_of, within_of}
-use Rattle.mm_lists.proofs.Segments.{formed}
-use Rattle.mm_lists.proofs.Listed.{list_ascends}
-
--- ---- the tests of the search
-
-same_lists : (a b : Label) → slice_cmp int_cmp a b ≡ Equal → a ≡ b
-same_lists [] [] e = refl
-same_lists [] (y ∷ b) e = absurd cc
-same_lists (x ∷ a) [] e = absurd cc
-same_lists (x ∷ a) (y ∷ b) e = by (int_cmp x y) refl e (same_lists a b)
-  where
-    by : (o : Ordering) → int_cmp x y ≡ o → ordering_then o (slice_cmp int_cmp a b) ≡ Equal → (slice_cmp int_cmp a b ≡ Equal → a ≡ b) → x ∷ a ≡ y ∷ b
-    by Less h e f = absurd cc
-    by Equal h e f = let p : x ≡ y = (Decides-int_eq x y).0 (ap is_eq h) in let q = f e in cc
-    by Greater h e f = absurd cc
-
-before_trans : (a b c : Label) → IsBefore a b → IsBefore b c → IsBefore a c
-before_trans a b c p q = (lists_total int_cmp_total).trans a b c p q
-
-turned : (a b : Label) (o : Ordering) → slice_cmp int_cmp b a ≡ o → slice_cmp int_cmp a b ≡ ordering_reverse o
-turned a b o e = (lists_total int_cmp_total).antisymm a b ∙ ap ordering_reverse e
-
-le_true : (m v : Label) → is_le (slice_cmp int_cmp m v) ≡ true → IsAtOrBefore m v
-le_true m v e = by (slice_cmp int_cmp m v) refl e
-  where
-    by : (o : Ordering) → slice_cmp int_cmp m v ≡ o → is_le o ≡ true → IsAtOrBefore m v
-    by Less h e = inr h
-    by Equal h e = inl (same_lists m v h)
-    by Greater h e = absurd cc
-
-le_false : (m v : Label) → is_le (slice_cmp int_cmp m v) ≡ false → IsBefore v m
-le_false m v e = by (slice_cmp int_cmp m v) refl e
-  where
-    by : (o : Ordering) → slice_cmp int_cmp m v ≡ o → is_le o ≡ false → IsBefore v m
-    by Less h e = absurd cc
-    by Equal h e = absurd cc
-    by Greater h e = turned v m Greater h
-
-true_le : (m v : Label) → IsAtOrBefore m v → is_le (slice_cmp int_cmp m v) ≡ true
-true_le m v h = elim h [
-  | inl e ↦ subst (λ (x : Label). is_le (slice_cmp int_cmp m x) ≡ true) e (ap is_le (tied_itself (lists_total int_cmp_total) m))
-  | inr k ↦ ap is_le k
-]
-
-lt_true : (m v : Label) → is_lt (slice_cmp int_cmp m v) ≡ true → IsBefore m v
-lt_true m v e = by (slice_cmp int_cmp m v) refl e
-  where
-    by : (o : Ordering) → slice_cmp int_cmp m v ≡ o → is_lt o ≡ true → IsBefore m v
-    by Less h e = h
-    by Equal h e = absurd cc
-    by Greater h e = absurd cc
-
-lt_false : (m v : Label) → is_lt (slice_cmp int_cmp m v) ≡ false → IsAtOrBefore v m
-lt_false m v e = by (slice_cmp int_cmp m v) refl e
-  where
-    by : (o : Ordering) → slice_cmp int_cmp m v ≡ o → is_lt o ≡ false → IsAtOrBefore v m
-    by Less h e = absurd cc
-    by Equal h e = inl (sym (same_lists m v h))
-    by Greater h e = inr (turned v m Greater h)
-
-before_not : (a b : Label) → IsBefore a b → IsAtOrBefore b a → ⊥
-before_not a b h k = elim k [
-  | inl e ↦ (before_lt a b h).1 (sym e)
-  | inr q ↦ let t = turned a b Less q in absurd cc
-]
+use Rattle.mm_lists.specs.Lists.{IsFirst, IsLast, IsLeft, IsRight, IsNext, IsRightPast}
+use Rattle.mm_label.specs.Facts.Fronts.{front_yes, front_no, is_front_of, le_total, between_front}
+use Rattle.mm_label.specs.Facts.Order.{before_lt, le_before, lt_before, front_of, ancestor_of}
+use Rattle.mm_label.specs.Facts.Lists.{within_of}
+use Rattle.mm_label.specs.Facts.Places.{before_trans, le_true, le_false, true_le, lt_true, lt_false, before_not, get_none, get_some, same_at, at_or_before}
+use Rattle.mm_lists.specs.Facts.Formed.{formed}
+use Rattle.mm_lists.specs.Facts.Listed.{list_ascends}
 
 -- ---- the test holds of a first part of the list
 
@@ -100,22 +37,6 @@ up_to_parted ms v a = parted (λ m. is_le (slice_cmp int_cmp m v)) ms a
 
 pub before_parted : (ms : List Label) (v : Label) → AllPairs IsBefore ms → IsPartitionedBy (λ m. is_lt (slice_cmp int_cmp m v)) ms
 before_parted ms v a = parted (λ m. is_lt (slice_cmp int_cmp m v)) ms a (λ x y h e. ap is_lt (before_trans x y v h (lt_true y v e)))
-
-or_cases : (a b : Bool) → (a || b) ≡ true → (a ≡ true) ⊎ (b ≡ true)
-or_cases true b e = inl refl
-or_cases false b e = inr e
-
-or_left : (a b : Bool) → a ≡ true → (a || b) ≡ true
-or_left true b e = refl
-or_left false b e = absurd cc
-
-or_right : (a b : Bool) → b ≡ true → (a || b) ≡ true
-or_right true b e = refl
-or_right false b e = e
-
-or_false : (a b : Bool) → (a || b) ≡ false → (a ≡ false) × (b ≡ false)
-or_false true b e = absurd cc
-or_false false b e = (refl, e)
 
 pub through_parted : (ms : List Label) (v : Label) → AllPairs IsBefore ms → IsPartitionedBy (is_through v) ms
 through_parted ms v a = parted (is_through v) ms a (λ x y h e.
@@ -143,36 +64,12 @@ through_yes v m e h = elim (or_cases (is_le (slice_cmp int_cmp m v)) _ e) [
 
 through_no : (v m : Label) → is_through v m ≡ false → IsPast v m
 through_no v m e =
-    let t = or_false (is_le (slice_cmp int_cmp m v)) (is_front v m) e in
+    let t = or_parts (is_le (slice_cmp int_cmp m v)) (is_front v m) e in
     (le_false m v t.0, λ f. front_no v m t.1 (front_of v m f))
 
 pub through_point : (ms : List Label) (v : Label) (i : ℕ) → IsPartitionPoint (λ m. is_through v m ≡ true) (λ m. is_through v m ≡ false) ms i
     → IsPartitionPoint (λ m. IsPast v m → ⊥) (λ m. IsPast v m) ms i
 through_point ms v i p = (λ k d h q. through_yes v _ (p.0 k d h q), λ k d h q. through_no v _ (p.1 k d h q))
-
--- ---- what stands at the place
-
-get_none : (ms : List Label) (i : ℕ) → length ms ≤ i → slice_get ms i ≡ None
-get_none [] i h = refl
-get_none (m ∷ ms) zero h = absurd (omega arith)
-get_none (m ∷ ms) (suc i) h = get_none ms i (omega arith)
-
-get_some : (ms : List Label) (i : ℕ) (d : Label) → i < length ms → slice_get ms i ≡ Some (slice_index_or ms i d)
-get_some [] i d h = absurd (omega arith)
-get_some (m ∷ ms) zero d h = refl
-get_some (m ∷ ms) (suc i) d h = get_some ms i d (omega arith)
-
-same_at : (ms : List Label) (i : ℕ) (d e : Label) → i < length ms → slice_index_or ms i d ≡ slice_index_or ms i e
-same_at [] i d e h = absurd (omega arith)
-same_at (m ∷ ms) zero d e h = refl
-same_at (m ∷ ms) (suc i) d e h = same_at ms i d e (omega arith)
-
--- of two places, the earlier has the label at or before
-at_or_before : (ms : List Label) (i k : ℕ) (d e : Label) → AllPairs IsBefore ms → i ≤ k → k < length ms → IsAtOrBefore (slice_index_or ms i d) (slice_index_or ms k e)
-at_or_before ms i k d e a h q = subst (λ (x : Label). IsAtOrBefore (slice_index_or ms i d) x) (same_at ms k d e q) (elim (cases_lt i k) [
-  | inl s ↦ inr (a i k d s q)
-  | inr s ↦ let t : i ≡ k = omega arith in inl (ap (λ (n : ℕ). slice_index_or ms n d) t)
-])
 
 pub first_found : (P : Label → Type 0) (ms : List Label) (i : ℕ) (o : Option Label) → AllPairs IsBefore ms → AllWithin (λ m. P m → ⊥) ms 0 i → AllWithin P ms i (length ms) → o ≡ slice_get ms i → IsFirst P ms o
 first_found P ms i o a low high e = elim (cases_lt i (length ms)) [

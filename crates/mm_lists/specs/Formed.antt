@@ -1,16 +1,7 @@
 -- Where the labels of a well-formed forest stand, as a recursion on its trees.
-use Rattle.std.specs.Prelude.{◌≡◌, ◌⊎◌}
-use Rattle.mm_label.specs.Label.{whole}
+use Rattle.mm_label.specs.Fronts.{Label, Apart, IsChild}
 use Rattle.mm_tree.specs.Trees.{Trees, none, node}
 use Rattle.mm_tree.specs.Search.{Worded}
-use Rattle.mm_lists.specs.Fronts.{Label, Front, Apart}
-
--- x is y and one segment
-pub record IsChild (y x : Label) : Type 0 where
-  pub below : Front y x
-  pub is_whole : whole x ≡ x
-  pub longer : x ≡ y → ⊥
-  pub one : (z : Label) → whole z ≡ z → Front z x → Front z y ⊎ (z ≡ x)
 
 abbrev pub RootsAfter : Label → Trees Worded → Type 0
 RootsAfter a none = Unit {0}

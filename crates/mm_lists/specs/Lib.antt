@@ -1,6 +1,7 @@
 pub mod Lists
 pub mod Causes
-pub mod Fronts
+pub mod Full
 pub mod Formed
 pub mod Shortest
 pub mod Memory
+pub mod Facts

@@ -1,16 +1,9 @@
 -- Keyword lists: what a look-up in the list of a word finds. The left and the right match are those of
 -- Xu and Papakonstantinou: "Efficient Keyword Search for Smallest LCAs in XML Databases", SIGMOD 2005.
-use Rattle.std.specs.Prelude.{ℤ, List, [], ◌∷◌, ◌≡◌, ◌⊎◌, Option, Some, None}
+use Rattle.std.specs.Prelude.{ℤ, List, [], ◌∷◌, Option, Some, None}
 use Rattle.std.specs.List.{Contains}
-use Rattle.mm_label.specs.Label.{IsBefore, IsAncestorOrSelf}
-
--- a comes before b, or is b
-abbrev pub IsAtOrBefore : List ℤ → List ℤ → Type 0
-IsAtOrBefore a b = (a ≡ b) ⊎ IsBefore a b
-
--- b comes after a and after all that lies below a
-abbrev pub IsPast : List ℤ → List ℤ → Type 0
-IsPast a b = IsBefore a b × (IsAncestorOrSelf a b → ⊥)
+use Rattle.mm_label.specs.Label.{IsBefore}
+use Rattle.mm_label.specs.Fronts.{IsAtOrBefore, IsPast}
 
 -- the first of the list of which P holds, or None where it holds of none
 abbrev pub IsFirst : (List ℤ → Type 0) → List (List ℤ) → Option (List ℤ) → Type 0

@@ -7,7 +7,7 @@ use Rattle.mm_tree.specs.Trees.{Trees}
 use Rattle.mm_tree.specs.Numbering.{Labelled}
 use Rattle.mm_tree.specs.Forests.{is_well_formed}
 use Rattle.mm_tree.specs.Search.{list_of, worded}
-use Rattle.mm_lists.specs.Fronts.{is_front}
+use Rattle.mm_label.specs.Fronts.{is_front}
 
 -- the list under a word, empty where there is none
 abbrev pub list_in : BTreeMap (List ℕ) (List (List ℤ)) → List ℕ → List (List ℤ)

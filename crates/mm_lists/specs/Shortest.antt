@@ -1,5 +1,6 @@
 -- The shortest of the lists.
-use Rattle.std.specs.Prelude.{ℕ, ◌≤◌, ◌<◌, ◌≡◌, ◌⊎◌, List, [], length, get_or}
+use Rattle.std.specs.Prelude.{ℕ, ◌≤◌, ◌<◌, ◌≡◌, ◌⊎◌, List, [], ◌∷◌, length, min, get_or}
+use Rattle.mm_label.specs.Fronts.{Label}
 use Rattle.mm_tree.specs.Trees.{Trees}
 use Rattle.mm_tree.specs.Search.{Worded, list_of}
 
@@ -11,3 +12,9 @@ IsShortest query f at size = (length (list_of (get_or query at []) f) ≡ size) 
 abbrev pub Betters : ℕ → ℕ → ℕ → ℕ → ℕ → ℕ → Type 0
 Betters at size old_at old_size new_at new_size =
     ((new_at ≡ at) × (new_size ≡ size) × (0 < at → size ≤ old_size)) ⊎ ((new_at ≡ old_at) × (new_size ≡ old_size) × (0 < at) × (old_size ≤ size))
+
+-- how many nodes the shortest list has
+abbrev pub least : List (List Label) → ℕ
+least [] = 0
+least (l ∷ []) = length l
+least (l ∷ k ∷ ls) = min (length l) (least (k ∷ ls))

@@ -2,15 +2,17 @@
 //! the look-ups in them that searches are made of.
 #![tactic(auto)]
 
+mod children;
 pub mod laws;
 mod lists;
 mod matches;
 mod memory;
 mod shortest;
 
+pub use children::child_to;
 pub use lists::Lists;
 pub use matches::candidate;
-pub use memory::MemLists;
+pub use memory::{MemLists, count_before};
 pub use shortest::{Shortest, find_shortest};
 
 #[cfg(test)]

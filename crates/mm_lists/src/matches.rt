@@ -7,7 +7,8 @@ ghost use Rattle.mm_tree.specs.Numbering.{Labelled};
 ghost use Rattle.mm_tree.specs.Forests.{is_well_formed};
 ghost use Rattle.mm_tree.specs.Search.{list_of, lists_of, worded};
 ghost use Rattle.mm_lists.specs.Causes.{Caused, IsSound};
-ghost use Rattle.mm_lists.specs.Fronts.{Label, Within, Meets, Full, IsCandidate, deeper, is_front, narrowed, or_empty, reach};
+ghost use Rattle.mm_label.specs.Fronts.{Label, Within, Meets};
+ghost use Rattle.mm_lists.specs.Full.{Full, IsCandidate, deeper, narrowed, or_empty, reach};
 
 use crate::lists::Lists;
 use mm_host::Fault;
@@ -16,13 +17,6 @@ use mm_steps::Steps;
 use mm_words::Word;
 use std::alloc::{AllocError, Global};
 use std::sync::ledger::Ledger;
-
-/// Whether the first is an ancestor of the second or the same.
-pub fn is_front(a: &Label, b: &Label) -> bool
-    ensures { result ≡ is_front a.now b.now }
-{
-    a.is_prefix(b)
-}
 
 /// The lowest common ancestor with a match, if there is one.
 fn reached(alloc: Global, x: &Label, of: &Option<Label>) -> Result<Option<Label>, AllocError>
@@ -35,14 +29,14 @@ fn reached(alloc: Global, x: &Label, of: &Option<Label>) -> Result<Option<Label>
 }
 
 /// The deeper of two on one path.
-#[tactic(auto, using(crate::proofs::FrontLaws::deeper_none))]
+#[tactic(auto, using(crate::specs::Facts::Candidates::deeper_none))]
 fn deeper_of(a: Option<Label>, b: Option<Label>) -> Option<Label>
     ensures { or_empty result ≡ deeper (or_empty a) (or_empty b) }
 {
     match (a, b) {
         (None, b) => b,
         (Some(a), None) => Some(a),
-        (Some(a), Some(b)) => { if is_front(&a, &b) { Some(b) } else { Some(a) } }
+        (Some(a), Some(b)) => { if a.is_prefix(&b) { Some(b) } else { Some(a) } }
     }
 }
 

@@ -1,19 +1,16 @@
 //! Keyword lists in memory.
 
-ghost use Rattle.std.specs.Prelude.{◌≡◌, ◌≤◌, ◌++◌, ◌∷◌, [], refl, ℕ, ℤ, List, AllPairs, IfOk, IfErr, OnOk, length, slice_get, if◌then◌else◌, bytes_eq};
+ghost use Rattle.std.specs.Prelude.{◌≡◌, ◌≤◌, ◌++◌, ◌∷◌, [], refl, ℕ, List, AllPairs, IfOk, OnOk, length, slice_get, if◌then◌else◌, bytes_eq};
 ghost use Rattle.std.specs.List.{list_any};
 ghost use Rattle.std.proofs.Common.{◌∙◌};
 ghost use Rattle.std.specs.List.Sorted.{IsPartitionPoint};
 ghost use Rattle.mm_label.specs.Label.{IsBefore};
-ghost use Rattle.mm_tree.specs.Trees.{Trees};
-ghost use Rattle.mm_tree.specs.Numbering.{Labelled, forest_of};
-ghost use Rattle.mm_tree.specs.Search.{Worded, has, list_of, own, worded};
-ghost use Rattle.mm_lists.specs.Causes.{Caused, IsSound};
-ghost use Rattle.mm_lists.specs.Lists.{IsAtOrBefore, IsLeft, IsNext, IsPast, IsRight, IsRightPast, head_of};
+ghost use Rattle.mm_tree.specs.Numbering.{forest_of};
+ghost use Rattle.mm_tree.specs.Search.{list_of, own, worded};
+ghost use Rattle.mm_label.specs.Fronts.{IsAtOrBefore, IsPast};
 ghost use Rattle.mm_lists.specs.Memory.{is_through, list_in};
 
 use crate::lists::Lists;
-use crate::matches::is_front;
 use mm_host::Fault;
 use mm_label::Label;
 use mm_list::Items;
@@ -76,8 +73,8 @@ fn count_up_to(list: &[Label], at: &Label) -> usize
     list.partition_point(|m| m <= at)
 }
 
-/// How many of the labels come before the one.
-fn count_before(list: &[Label], at: &Label) -> usize
+/// How many of the labels, which stand in document order, come before the one.
+pub fn count_before(list: &[Label], at: &Label) -> usize
     ensures { AllPairs IsBefore list.now → IsPartitionPoint (λ m. IsBefore m at.now) (λ m. IsAtOrBefore at.now m) list.now result }
 {
     list.partition_point(|m| m < at)
@@ -87,7 +84,7 @@ fn count_before(list: &[Label], at: &Label) -> usize
 fn is_through(at: &Label, m: &Label) -> bool
     ensures { result ≡ is_through at.now m.now }
 {
-    m <= at || is_front(at, m)
+    m <= at || at.is_prefix(m)
 }
 
 /// How many of the labels come before the end of the one's subtree.

@@ -1,4 +1,3 @@
-pub mod FrontLaws
 pub mod Ties
 pub mod ParentFacts
 pub mod Thinning

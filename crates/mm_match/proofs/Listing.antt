@@ -1,7 +1,7 @@
 -- The entries of a map in order, as marks.
-use Rattle.std.proofs.Common.{inl, inr, ◌≡◌, ◌⊎◌, Bool, true, false, ℕ, zero, suc, ◌<◌, List, [], ◌∷◌, ◌++◌, refl, ap, sym, subst, ◌∙◌, Option, Some, None, length, arith, Less}
+use Rattle.std.proofs.Common.{inl, inr, ◌≡◌, ℕ, zero, suc, ◌<◌, List, [], ◌∷◌, ap, sym, subst, ◌∙◌, Some, None, length, arith, Less}
 use Rattle.std.specs.Prelude.{slice_index_or, ◌↔◌}
-use Rattle.std.specs.BTreeMap.{BTreeMap, keys, IsOrdered}
+use Rattle.std.specs.BTreeMap.{BTreeMap, keys}
 use Rattle.std.specs.List.{Contains, AllByRecursion}
 use Rattle.std.specs.List.Sorted.{IsStrictlySortedBy}
 use Rattle.std.specs.Map.{keys_of}
@@ -11,10 +11,11 @@ use Rattle.std.specs.Cmp.Lexicographic.{slice_cmp, lists_total}
 use Rattle.std.proofs.lemmas.Map.Keys.{sorted_head, sorted_tail}
 use Rattle.std.proofs.lemmas.Map.Views.{btree_map_get_iff}
 use Rattle.mm_match.specs.declared.mark.Mark.{Mark}
-use Rattle.mm_match.specs.Fronts.{Label, Lt, Within, Ascends}
+use Rattle.mm_label.specs.Fronts.{Label, Lt, Within, Ascends}
 use Rattle.mm_match.specs.Marks.{InMarks, IsOnPath, labels, mask_at}
 use Rattle.mm_match.specs.Passing.{gathered, marks_of, mask_in}
-use Rattle.mm_match.proofs.Ties.{before_lt, exact_label}
+use Rattle.mm_label.specs.Facts.Order.{before_lt}
+use Rattle.mm_match.proofs.Ties.{exact_label}
 use Rattle.mm_match.proofs.PathFacts.{gathered_met, gathered_path}
 
 entries_ascend : (es : List (Label × ℕ)) → IsStrictlySortedBy (slice_cmp int_cmp) (keys_of es) → Ascends (labels (marks_of es))

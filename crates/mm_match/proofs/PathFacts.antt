@@ -1,28 +1,19 @@
 -- From a match up to the root each node gets its words, and after all matches each node on a path has its mask.
-use Rattle.std.proofs.Common.{inl, inr, ◌+◌, get_or, drop, ◌≡◌, ◌⊎◌, Bool, true, false, not, ◌&&◌, cond, ℕ, zero, suc, ◌<◌, ◌≤◌, List, [], ◌∷◌, ◌++◌, refl, ap, sym, subst, ◌∙◌, Option, Some, None, length, arith, Ordering, Less, Equal, Greater}
-use Rattle.std.specs.Prelude.{ℤ}
+use Rattle.std.proofs.Common.{inl, inr, ◌+◌, get_or, drop, ◌≡◌, Bool, true, false, not, ◌&&◌, cond, ℕ, ◌<◌, List, [], ◌∷◌, refl, ap, sym, subst, ◌∙◌, Option, Some, None, length, arith}
 use Rattle.std.specs.Int.Bits.{bit_or}
 use Rattle.std.specs.Ordering.{int_cmp, is_eq}
-use Rattle.std.specs.Cmp.{int_cmp_total}
-use Rattle.std.specs.Cmp.Lexicographic.{slice_cmp, lists_total}
-use Rattle.std.proofs.lemmas.Cmp.{tied_itself}
+use Rattle.std.specs.Cmp.Lexicographic.{slice_cmp}
+use Rattle.std.proofs.lemmas.Bool.{and_parts, and_from}
 use Rattle.mm_label.specs.Label.{whole}
 use Rattle.mm_match.specs.declared.mark.Mark.{Mark}
-use Rattle.mm_match.specs.Fronts.{Label, Front, is_front, same, Meets, parent, named}
+use Rattle.mm_label.specs.Fronts.{Label, Front, is_front, Meets, same, parent, named}
 use Rattle.mm_match.specs.Marks.{labels, IsOnPath, mask_from, mask_at}
 use Rattle.mm_match.specs.Passing.{is_between, more, let_in, gathered, or_above, or_empty, is_above}
-use Rattle.mm_match.proofs.FrontLaws.{front_refl, front_trans, front_antisym, front_yes, is_front_of, front_no}
+use Rattle.mm_label.specs.Facts.Fronts.{front_refl, front_trans, front_yes, is_front_of, front_no, same_is, same_of}
 use Rattle.mm_match.proofs.Siblings.{here}
-use Rattle.mm_match.proofs.Ties.{key_is, key_of, same_is, same_of}
-use Rattle.mm_match.proofs.ParentFacts.{up, parent_front, parent_whole, parent_shorter, front_none, front_length, named_some}
-
-both : (p q : Bool) → (p && q) ≡ true → (p ≡ true) × (q ≡ true)
-both true q e = (refl, e)
-both false q e = absurd cc
-
-both_of : (p q : Bool) → p ≡ true → q ≡ true → (p && q) ≡ true
-both_of true q e f = f
-both_of false q e f = absurd cc
+use Rattle.mm_match.proofs.Ties.{key_is, key_of}
+use Rattle.mm_label.specs.Facts.Parents.{up, parent_front, parent_shorter, front_length}
+use Rattle.mm_label.specs.Facts.Children.{front_none}
 
 -- ---- up from the match
 
@@ -75,12 +66,12 @@ pub record Between (root x label : Label) : Type 0 where
 
 pub between_is : (root x label : Label) → is_between root x label ≡ true → Between root x label
 between_is root x label e =
-    let p = both (same (whole x) x) (is_front root x && is_front x label) e in
-    let q = both (is_front root x) (is_front x label) p.1 in
+    let p = and_parts (same (whole x) x) (is_front root x && is_front x label) e in
+    let q = and_parts (is_front root x) (is_front x label) p.1 in
     record { is_whole = same_is (whole x) x p.0; below = front_yes root x q.0; above = front_yes x label q.1 }
 
 pub between_of : (root x label : Label) → whole x ≡ x → Front root x → Front x label → is_between root x label ≡ true
-between_of root x label w f g = both_of (same (whole x) x) (is_front root x && is_front x label) (same_of (whole x) x w) (both_of (is_front root x) (is_front x label) (is_front_of root x f) (is_front_of x label g))
+between_of root x label w f g = and_from (same (whole x) x) (is_front root x && is_front x label) (same_of (whole x) x w) (and_from (is_front root x) (is_front x label) (is_front_of root x f) (is_front_of x label g))
 
 pub starts : (root label x : Label) (words : ℕ) (mask : Option ℕ) → (root ≡ [] → ⊥) → so_far root label (or_above root (named label)) x words mask ≡ mask
 starts root label x words mask n = by (is_between root x label) refl
@@ -150,7 +141,7 @@ is_below root x = same (whole x) x && is_front root x
 
 let_in_below : (root x : Label) (m : Mark) (mask : Option ℕ) → is_below root x ≡ true → let_in root x m mask ≡ cond (is_front x m.label) (more mask m.mask) mask
 let_in_below root x m mask e =
-    let p = both (same (whole x) x) (is_front root x) e in
+    let p = and_parts (same (whole x) x) (is_front root x) e in
     ap (λ (t : Bool). cond (t && (is_front root x && is_front x m.label)) (more mask m.mask) mask) p.0 ∙ ap (λ (t : Bool). cond (t && is_front x m.label) (more mask m.mask) mask) p.1
 
 gathered_some : (root x : Label) (n : ℕ) (ms : List Mark) → is_below root x ≡ true → gathered root x (Some n) ms ≡ Some (mask_from n x ms)
@@ -166,7 +157,7 @@ gathered_met root x [] w f met = absurd met
 gathered_met root x (m ∷ ms) w f met = ap (λ (o : Option ℕ). gathered root x o ms) (let_in_below root x m None below) ∙ by (is_front x m.label) refl (gathered_met root x ms w f)
   where
     below : is_below root x ≡ true
-    below = both_of (same (whole x) x) (is_front root x) (same_of (whole x) x w) (is_front_of root x f)
+    below = and_from (same (whole x) x) (is_front root x) (same_of (whole x) x w) (is_front_of root x f)
 
     by : (t : Bool) → is_front x m.label ≡ t → (Meets x (labels ms) → gathered root x None ms ≡ Some (mask_at x ms)) → gathered root x (cond t (more None m.mask) None) ms ≡ Some (mask_from (cond t (bit_or 0 m.mask) 0) x ms)
     by true e again = gathered_some root x (bit_or 0 m.mask) ms below

@@ -1,5 +1,5 @@
 -- The distinct masks of siblings, by their parent.
-use Rattle.std.proofs.Common.{inl, inr, ◌+◌, ◌<◌, length, get_or, drop, drop-cons, add-one, ap₂, nat_eq, ◌≡◌, ◌⊎◌, Bool, true, false, not, ◌&&◌, ◌||◌, cond, ℕ, List, [], ◌∷◌, ◌++◌, refl, ap, sym, subst, ◌∙◌, Option, Some, None, Ordering, Less, Equal, Greater}
+use Rattle.std.proofs.Common.{◌+◌, ◌<◌, length, get_or, drop, drop-cons, add-one, ap₂, nat_eq, ◌≡◌, Bool, true, false, ◌&&◌, ◌||◌, cond, ℕ, List, [], ◌∷◌, ◌++◌, refl, ap, sym, subst, ◌∙◌, Option, Some, None}
 use Rattle.std.specs.Prelude.{unwrap_or}
 use Rattle.std.proofs.lemmas.Bool.{eqb-true}
 use Rattle.std.specs.BTreeMap.{BTreeMap, get}
@@ -8,7 +8,7 @@ use Rattle.std.specs.Option.{option_cmp}
 use Rattle.std.specs.Ordering.{int_cmp, is_eq}
 use Rattle.std.specs.Cmp.Lexicographic.{slice_cmp}
 use Rattle.mm_match.specs.declared.mark.Mark.{Mark}
-use Rattle.mm_match.specs.Fronts.{Label, is_front, same, parent, named}
+use Rattle.mm_label.specs.Fronts.{Label, is_front, same, parent, named}
 use Rattle.mm_match.specs.Marks.{under, is_rival, is_beaten}
 use Rattle.mm_match.specs.Passing.{masks_in, outdone, same_parent, thin, taken, next_cut}
 use Rattle.mm_match.proofs.Ties.{key_is, key_same}

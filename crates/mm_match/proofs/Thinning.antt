@@ -2,12 +2,12 @@
 use Rattle.std.proofs.Common.{inl, inr, ◌≡◌, ◌⊎◌, Bool, true, false, not, ◌&&◌, ◌||◌, cond, List, [], ◌∷◌, ◌++◌, refl, ap, sym, subst, ◌∙◌, Option, Some, None, ℕ, ◌≤◌, length, drop}
 use Rattle.std.proofs.lemmas.List.{drop_all}
 use Rattle.std.specs.List.{list_any, filter}
+use Rattle.std.proofs.lemmas.Bool.{and_parts, and_from}
 use Rattle.mm_match.specs.declared.mark.Mark.{Mark}
-use Rattle.mm_match.specs.Fronts.{Label, Front, is_front, Le}
-use Rattle.mm_match.specs.Fronts.{Within, Ascends}
+use Rattle.mm_label.specs.Fronts.{Label, Front, is_front, Le, Within, Ascends}
 use Rattle.mm_match.specs.Marks.{labels, InMarks, is_beaten, kept}
 use Rattle.mm_match.specs.Passing.{is_cut, thin, next_cut, taken}
-use Rattle.mm_match.proofs.FrontLaws.{front_refl, front_trans, front_le, front_yes, is_front_of, le_antisym, between_front}
+use Rattle.mm_label.specs.Facts.Fronts.{front_refl, front_trans, front_le, front_yes, is_front_of, le_antisym, between_front}
 
 pub any_at : (t : Mark → Bool) (p : Mark) (all : List Mark) → InMarks p all → t p ≡ true → list_any t all ≡ true
 any_at t p [] w e = absurd w
@@ -28,14 +28,6 @@ any_none t (m ∷ ms) h = by (t m) refl (any_none t ms (λ p w. h p (inr w)))
     by true e k = absurd (h m (inl refl) e)
     by false e k = k
 
-pub both : (p q : Bool) → (p && q) ≡ true → (p ≡ true) × (q ≡ true)
-both true q e = (refl, e)
-both false q e = absurd (cc)
-
-pub both_of : (p q : Bool) → p ≡ true → q ≡ true → (p && q) ≡ true
-both_of true q e f = f
-both_of false q e f = absurd (cc)
-
 pub label_within : (p : Mark) (ms : List Mark) → InMarks p ms → Within p.label (labels ms)
 label_within p [] w = absurd w
 label_within p (m ∷ ms) w = elim w [ inl h ↦ inl (ap (λ (q : Mark). q.label) h) | inr h ↦ inr (label_within p ms h) ]
@@ -53,7 +45,7 @@ cut_survives : (bad : Mark → Bool) (all : List Mark) (cut : Option Label) (m :
     → list_any (λ p. is_front p.label m.label && bad p) all ≡ true
 cut_survives bad all None m s e = absurd (cc)
 cut_survives bad all (Some c) m s e = any_at (λ p. is_front p.label m.label && bad p) s.0 all s.1
-    (both_of (is_front s.0.label m.label) (bad s.0) (subst (λ (x : Label). is_front x m.label ≡ true) (sym s.3) e) s.2)
+    (and_from (is_front s.0.label m.label) (bad s.0) (subst (λ (x : Label). is_front x m.label ≡ true) (sym s.3) e) s.2)
 
 is_cut_below : (cut : Option Label) (a x : Label) → is_cut cut a ≡ true → Front a x → is_cut cut x ≡ true
 is_cut_below None a x e f = absurd (cc)
@@ -93,7 +85,7 @@ thin_keeps bad all P cut (m ∷ ms) split of before rise sound covers =
           | inr h ↦ is_cut_below cut m.label x e (subst (λ (r : Mark). Front r.label x) h f)
         ]))
     by false true e k again =
-        let t : list_any (λ p. is_front p.label m.label && bad p) all ≡ true = any_at (λ p. is_front p.label m.label && bad p) m all (of m (inl refl)) (both_of (is_front m.label m.label) (bad m) (is_front_of m.label m.label (front_refl m.label)) k) in
+        let t : list_any (λ p. is_front p.label m.label && bad p) all ≡ true = any_at (λ p. is_front p.label m.label && bad p) m all (of m (inl refl)) (and_from (is_front m.label m.label) (bad m) (is_front_of m.label m.label (front_refl m.label)) k) in
         rw t (again (Some m.label) (m, of m (inl refl), k, refl)
         (λ p w z x l f. elim w [
           | inl h ↦
@@ -103,7 +95,7 @@ thin_keeps bad all P cut (m ∷ ms) split of before rise sound covers =
         ]))
     by false false e k again =
         let t : list_any (λ p. is_front p.label m.label && bad p) all ≡ false = any_none (λ p. is_front p.label m.label && bad p) all (λ p w z.
-        let d = both (is_front p.label m.label) (bad p) z in
+        let d = and_parts (is_front p.label m.label) (bad p) z in
         let f = front_yes p.label m.label d.0 in
         elim (split p w) [
           | inl h ↦ let d : is_cut cut m.label ≡ true = covers p h d.1 m.label passed f in absurd (cc)

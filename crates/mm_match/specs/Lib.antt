@@ -1,4 +1,3 @@
-pub mod Fronts
 pub mod Marks
 pub mod Passing
 pub mod Rows

@@ -1,10 +1,10 @@
 -- Marks: nodes with words of a query as bits. What a node's mask is, and which marks are kept.
-use Rattle.std.specs.Prelude.{ℕ, Bool, true, false, not, ◌&&◌, List, [], ◌∷◌, ◌++◌, ◌≡◌, ◌⊎◌, nat_eq, cond, Option, Some, None, pos, refl}
+use Rattle.std.specs.Prelude.{ℕ, Bool, not, ◌&&◌, List, [], ◌∷◌, ◌≡◌, ◌⊎◌, nat_eq, cond}
 use Rattle.std.specs.List.{list_any, filter}
 use Rattle.std.specs.Int.Bits.{bit_and, bit_or}
 use Rattle.mm_label.specs.Label.{whole}
 use Rattle.mm_match.specs.declared.mark.Mark.{Mark}
-use Rattle.mm_match.specs.Fronts.{Label, Front, is_front, same, Meets, parent}
+use Rattle.mm_label.specs.Fronts.{Label, Front, is_front, Meets, same, parent}
 
 abbrev pub labels : List Mark → List Label
 labels [] = []

@@ -1,5 +1,5 @@
 -- What the calls have done so far.
-use Rattle.std.specs.Prelude.{ℕ, ℤ, Bool, true, false, ◌&&◌, List, [], ◌∷◌, ◌++◌, cond, Option, Some, None, unwrap_or}
+use Rattle.std.specs.Prelude.{ℕ, Bool, true, false, ◌&&◌, List, [], ◌∷◌, ◌++◌, cond, Option, Some, None, unwrap_or}
 use Rattle.std.specs.List.{list_any}
 use Rattle.std.specs.BTreeMap.{BTreeMap, get}
 use Rattle.std.specs.Int.Bits.{bit_or}
@@ -8,7 +8,7 @@ use Rattle.std.specs.Ordering.{int_cmp}
 use Rattle.std.specs.Cmp.Lexicographic.{slice_cmp}
 use Rattle.mm_label.specs.Label.{whole}
 use Rattle.mm_match.specs.declared.mark.Mark.{Mark}
-use Rattle.mm_match.specs.Fronts.{Label, is_front, same, named}
+use Rattle.mm_label.specs.Fronts.{Label, is_front, same}
 use Rattle.mm_match.specs.Marks.{under}
 
 -- ---- one pass in document order: what was cut last, and whether a label lies at or below it

@@ -1,7 +1,7 @@
 -- Worked rows: the marks of two documents, and which of them are kept. Bit 0 is the query's first word.
-use Rattle.std.specs.Prelude.{ℕ, ℤ, pos, List, [], ◌∷◌, ◌≡◌, refl}
+use Rattle.std.specs.Prelude.{ℕ, pos, List, [], ◌∷◌, ◌≡◌, refl}
 use Rattle.mm_match.specs.declared.mark.Mark.{Mark}
-use Rattle.mm_match.specs.Fronts.{Label}
+use Rattle.mm_label.specs.Fronts.{Label}
 use Rattle.mm_match.specs.Marks.{kept, mask_at}
 
 label : List ℕ → Label

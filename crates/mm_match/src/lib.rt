@@ -2,7 +2,6 @@
 //! and Chen: "Reasoning and Identifying Relevant Matches for XML Keyword Search", VLDB 2008).
 #![tactic(auto)]
 
-pub mod laws;
 mod mark;
 mod parents;
 mod paths;

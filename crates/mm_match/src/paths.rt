@@ -1,17 +1,17 @@
 //! Masks: the words below each node on a path from the root to a match.
 
-ghost use Rattle.std.specs.Prelude.{◌≡◌, ◌↔◌, ℕ, ℤ, None, Option, IfOk, OnOk, cond, is_some};
+ghost use Rattle.std.specs.Prelude.{◌≡◌, ◌↔◌, None, Option, IfOk, OnOk, cond};
 ghost use Rattle.std.specs.Ordering.{int_cmp, is_eq};
 ghost use Rattle.std.specs.Cmp.Lexicographic.{slice_cmp};
 ghost use Rattle.std.specs.List.Sorted.{IsStrictlySortedBy};
 ghost use Rattle.std.specs.BTreeMap.{keys};
-ghost use Rattle.mm_match.specs.Fronts.{Ascends, Label, Within};
+ghost use Rattle.mm_label.specs.Fronts.{Ascends, Label, Within};
 ghost use Rattle.mm_match.specs.declared.mark.Mark.{Mark};
 ghost use Rattle.mm_match.specs.Marks.{InMarks, IsOnPath, labels, mask_at};
 ghost use Rattle.mm_match.specs.Passing.{gathered, let_in, marks_of, mask_in, more, or_above};
 
 use crate::mark::Mark;
-use crate::parents::{is_front, parent_of};
+use crate::parents::parent_of;
 use mm_label::Label;
 use mm_list::Items;
 use std::alloc::{AllocError, Global};
@@ -35,7 +35,7 @@ fn or_above(root: &Label, at: Option<Label>) -> Option<Label>
 {
     match at {
         Some(label) => {
-            if is_front(root, &label) {
+            if root.is_prefix(&label) {
                 Some(label)
             } else {
                 None

@@ -1,13 +1,13 @@
 //! Which marks are kept: one pass in document order, over the distinct masks of siblings.
 
-ghost use Rattle.std.specs.Prelude.{◌≡◌, ◌&&◌, ◌||◌, ℕ, ℤ, List, Option, IfOk, OnOk};
+ghost use Rattle.std.specs.Prelude.{◌≡◌, ◌&&◌, ◌||◌, ℕ, Option, IfOk, OnOk};
 ghost use Rattle.std.specs.List.{list_any};
-ghost use Rattle.mm_match.specs.Fronts.{Ascends, Label, named, parent};
+ghost use Rattle.mm_label.specs.Fronts.{Ascends, Label, named, parent};
 ghost use Rattle.mm_match.specs.Marks.{kept, labels, under};
 ghost use Rattle.mm_match.specs.Passing.{is_cut, next_cut, outdone, same_parent, taken};
 
 use crate::mark::Mark;
-use crate::parents::{is_front, parent_of};
+use crate::parents::parent_of;
 use mm_label::Label;
 use mm_list::Items;
 use std::alloc::{AllocError, Global};
@@ -82,7 +82,7 @@ fn is_cut(cut: &Option<Label>, label: &Label) -> bool
 {
     match cut {
         None => false,
-        Some(top) => is_front(top, label),
+        Some(top) => top.is_prefix(label),
     }
 }
 

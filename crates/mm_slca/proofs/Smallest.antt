@@ -1,21 +1,22 @@
 -- The recursion on trees gives the deepest full nodes of the keyword lists.
 use Rattle.std.proofs.Common.{inl, inr, ◌≡◌, ◌⊎◌, Bool, true, false, cond, List, [], ◌∷◌, ◌++◌, refl, sym, subst}
-use Rattle.mm_lists.specs.Fronts.{Label, Front, Within, Meets, Rising, Deepest}
+use Rattle.std.proofs.lemmas.Bool.{or_cases, or_parts}
+use Rattle.mm_label.specs.Fronts.{Label, Front, Within, Meets}
+use Rattle.mm_lists.specs.Full.{Rising, Deepest, Word}
 use Rattle.mm_label.specs.Label.{whole}
 use Rattle.mm_tree.specs.Trees.{Trees, none, node}
-use Rattle.mm_lists.specs.Fronts.{Word}
 use Rattle.mm_tree.specs.Search.{Worded, is_full, some_full, slca, lists_of}
 use Rattle.mm_lists.specs.Formed.{WellFormed}
-use Rattle.mm_lists.proofs.FrontLaws.{front_refl, front_trans, below_apart}
-use Rattle.mm_lists.proofs.Candidates.{meets_above}
-use Rattle.mm_lists.proofs.Below.{or_cases, or_false, front_cases, NodeOf, node_below, node_after, AllBelow, AllOne, full_of, of_full, all_one, all_after, all_inner, meets_left, meets_right, within_joined, rising_joined, full_lists, lists_full}
+use Rattle.mm_label.specs.Facts.Fronts.{front_refl, front_trans, below_apart, front_cases}
+use Rattle.mm_label.specs.Facts.Lists.{meets_above, meets_left, meets_right, within_joined}
+use Rattle.mm_lists.specs.Facts.Below.{NodeOf, node_below, node_after, AllBelow, AllOne, full_of, of_full, all_one, all_after, all_inner, rising_joined, full_lists, lists_full}
 
 -- ---- at one node, then at all
 
 none_full : (ws : List Word) (forest : Trees Worded) → some_full ws forest ≡ false → slca ws forest ≡ []
 none_full ws none h = refl
 none_full ws (node e inner rest) h =
-    let t = or_false (is_full ws e inner) _ h in
+    let t = or_parts (is_full ws e inner) _ h in
     let k = none_full ws rest t.1 in
     by (is_full ws e inner) (cond (some_full ws inner) (slca ws inner) (e.label ∷ [])) (slca ws rest) t.0 k
   where

@@ -1,39 +1,14 @@
 -- One walk over the candidates leaves the deepest.
-use Rattle.std.proofs.Common.{inl, inr, ◌≡◌, ◌⊎◌, ℕ, List, [], ◌∷◌, ◌++◌, refl, ap, sym, subst, ◌∙◌}
-use Rattle.std.proofs.Common.{zero, suc, ◌+◌, ◌≤◌, ◌<◌, Bool, true, false, cond, Some, None, Option, length, take, drop, take_all, arith, get_or}
-use Rattle.std.proofs.lemmas.List.{length-drop, drop_all, take_more, drop_more}
-use Rattle.mm_lists.specs.Fronts.{Label, Front, is_front, Le, Apart, Within, Meets, Full, IsFull, IsFullNode, Rising, Deepest, IsCandidate, Lt, Ascends}
+use Rattle.std.proofs.Common.{inl, inr, ◌≡◌, ℕ, List, [], ◌∷◌, ◌++◌, refl, ap, sym, subst, ◌∙◌, ◌+◌, ◌≤◌, ◌<◌, Bool, true, false, cond, Some, None, Option, length, take, drop, take_all, arith}
+use Rattle.std.proofs.lemmas.List.{length-drop, drop_all, take_more}
+use Rattle.mm_label.specs.Fronts.{Label, Front, is_front, Le, Apart, Within, Meets, Ascends}
+use Rattle.mm_lists.specs.Full.{Full, IsFull, IsFullNode, Deepest, IsCandidate}
 use Rattle.mm_slca.specs.Walk.{Walked, Stands, finished, taken_done, taken_held}
-use Rattle.mm_lists.proofs.Nearest.{NextMatch}
+use Rattle.mm_lists.specs.Facts.Nearest.{NextMatch}
 use Rattle.mm_lists.specs.Lists.{head_of}
-use Rattle.mm_lists.proofs.FrontLaws.{front_trans, front_antisym, front_le, front_yes, front_no, le_trans, le_antisym, le_total, between_front, apart_trans}
-use Rattle.mm_lists.proofs.Unique.{met, meets}
-
-pub within_last : (x : Label) (ms : List Label) → Within x (ms ++ x ∷ [])
-within_last x [] = inl refl
-within_last x (m ∷ ms) = inr (within_last x ms)
-
-pub within_longer : (x y : Label) (ms : List Label) → Within x ms → Within x (ms ++ y ∷ [])
-within_longer x y [] w = absurd w
-within_longer x y (m ∷ ms) w = elim w [ inl e ↦ inl e | inr k ↦ inr (within_longer x y ms k) ]
-
-pub within_cases : (x y : Label) (ms : List Label) → Within x (ms ++ y ∷ []) → Within x ms ⊎ (x ≡ y)
-within_cases x y [] w = elim w [ inl e ↦ inr e | inr k ↦ absurd k ]
-within_cases x y (m ∷ ms) w = elim w [
-  | inl e ↦ inl (inl e)
-  | inr k ↦ elim (within_cases x y ms k) [ inl h ↦ inl (inr h) | inr h ↦ inr h ]
-]
-
-pub meets_longer : (x y : Label) (ms : List Label) → Meets x ms → Meets x (ms ++ y ∷ [])
-meets_longer x y [] w = absurd w
-meets_longer x y (m ∷ ms) w = elim w [ inl e ↦ inl e | inr k ↦ inr (meets_longer x y ms k) ]
-
-pub rising_more : (ds : List Label) (u : Label) → Rising ds → ((d : Label) → Within d ds → Apart d u) → Rising (ds ++ u ∷ [])
-rising_more [] u g b = (λ m w. absurd w, tt)
-rising_more (d ∷ ds) u g b = (
-  λ m w. elim (within_cases m u ds w) [ inl k ↦ g.0 m k | inr e ↦ subst (Apart d) (sym e) (b d (inl refl)) ],
-  rising_more ds u g.1 (λ x w. b x (inr w)),
-)
+use Rattle.mm_label.specs.Facts.Fronts.{front_trans, front_antisym, front_le, front_yes, front_no, le_trans, le_total, between_front, apart_trans}
+use Rattle.mm_label.specs.Facts.Lists.{met, meets, within_last, within_cases, meets_longer, within_drop, ascends_tail}
+use Rattle.mm_lists.specs.Facts.Walking.{rising_more, head_none, head_some, next_is, drop_rest}
 
 pub walk_first : (ls : List (List Label)) → Full [] ls → Walked ls [] [] []
 walk_first ls f = record {
@@ -146,14 +121,6 @@ held_before v held c m f l h = by (is_front c held)
 
 -- ---- the list, from the i-th node on
 
-head_none : (ms : List Label) → None ≡ head_of ms → ms ≡ []
-head_none [] e = refl
-head_none (m ∷ ms) e = absurd (cc)
-
-head_some : (ms : List Label) (v : Label) → Some v ≡ head_of ms → (rest : List Label) × (ms ≡ v ∷ rest)
-head_some [] v e = absurd (cc)
-head_some (m ∷ ms) v e = (ms, (cc))
-
 -- nothing is left: one more changes nothing
 pub stands_none : (ls : List (List Label)) (ms : List Label) (i : ℕ) (done : List Label) (held : Label)
     → Stands ls ms i done held None → Stands ls ms (i + 1) done held None
@@ -167,62 +134,6 @@ stands_none ls ms i done held s =
       here = ap head_of (sym d);
       later = λ m w. absurd (subst (Within m) d w);
     }
-
-within_drop : (i : ℕ) (ms : List Label) (m : Label) → Within m (drop i ms) → Within m ms
-within_drop zero [] m w = w
-within_drop zero (x ∷ ms) m w = w
-within_drop (suc i) [] m w = w
-within_drop (suc i) (x ∷ ms) m w = inr (within_drop i ms m w)
-
--- ---- the next
-
-within_split : (p q : List Label) (m : Label) → Within m q → Within m (p ++ q)
-within_split [] q m w = w
-within_split (x ∷ p) q m w = inr (within_split p q m w)
-
-ascends_tail : (i : ℕ) (ms : List Label) → Ascends ms → Ascends (drop i ms)
-ascends_tail zero [] a = a
-ascends_tail zero (x ∷ ms) a = a
-ascends_tail (suc i) [] a = a
-ascends_tail (suc i) (x ∷ ms) a = ascends_tail i ms a.1
-
-within_at : (i : ℕ) (ms : List Label) (m : Label) → Ascends ms → Within m ms → (v : Label) (rest : List Label) → drop i ms ≡ v ∷ rest → Lt v m → Within m rest
-within_at zero [] m a w v rest e l = absurd w
-within_at zero (x ∷ ms) m a w v rest e l =
-    let p : x ≡ v = cc in
-    let q : ms ≡ rest = cc in
-    elim w [ inl k ↦ absurd (l.1 (sym p ∙ sym k)) | inr k ↦ subst (Within m) q k ]
-within_at (suc i) [] m a w v rest e l = absurd w
-within_at (suc i) (x ∷ ms) m a w v rest e l = elim w [
-  | inl k ↦
-      let h : Within v ms = within_drop i ms v (subst (Within v) (sym e) (inl refl)) in
-      let b = a.0 v h in
-      absurd (l.1 (le_antisym v m l.0 (subst (λ (t : Label). Le t v) (sym k) b.0)))
-  | inr k ↦ within_at i ms m a.1 k v rest e l
-]
-
--- the first after v is what follows it
-next_is : (ms : List Label) (i : ℕ) (v : Label) (rest : List Label) (o : Option Label) → Ascends ms → drop i ms ≡ v ∷ rest → NextMatch ms v o → o ≡ head_of rest
-next_is ms i v [] None a e n = refl
-next_is ms i v (r ∷ rest) None a e n =
-    let t = subst Ascends e (ascends_tail i ms a) in
-    absurd (n r (within_drop i ms r (subst (Within r) (sym e) (inr (inl refl)))) (t.0 r (inl refl)))
-next_is ms i v [] (Some r) a e n = absurd (within_at i ms r a n.0 v [] e n.1)
-next_is ms i v (q ∷ rest) (Some r) a e n =
-    let t = subst Ascends e (ascends_tail i ms a) in
-    let w = within_at i ms r a n.0 v (q ∷ rest) e n.1 in
-    let low = n.2 q (within_drop i ms q (subst (Within q) (sym e) (inr (inl refl)))) (t.0 q (inl refl)) in
-    elim w [
-      | inl k ↦ ap Some k
-      | inr k ↦ ap Some (le_antisym r q low (t.1.0 r k).0)
-    ]
-
-drop_rest : (ms : List Label) (i : ℕ) (v : Label) (rest : List Label) → drop i ms ≡ v ∷ rest → (i < length ms) × (get_or ms i [] ≡ v) × (drop (i + 1) ms ≡ rest)
-drop_rest ms i v rest e =
-    let h : i < length ms = omega (arith, length-drop i ms, ap length e) in
-    let k = drop_more ms i [] h in
-    let p : get_or ms i [] ∷ drop (i + 1) ms ≡ v ∷ rest = sym k ∙ e in
-    (h, (cc), (cc))
 
 pub stands_some : (ls : List (List Label)) (ms : List Label) (i : ℕ) (done : List Label) (held v c : Label) (o : Option Label) → Ascends ms
     → Stands ls ms i done held (Some v) → IsCandidate ls v c → NextMatch ms v o → Stands ls ms (i + 1) (taken_done done held c) (taken_held held c) o

@@ -1,12 +1,7 @@
 -- How many steps a search may take.
-use Rattle.std.specs.Prelude.{ℕ, pos, ◌≡◌, refl, ◌+◌, ◌*◌, ◌-◌, List, [], ◌∷◌, length, min, if◌then◌else◌, nat_eq}
-use Rattle.mm_lists.specs.Fronts.{Label}
-
--- how many nodes the shortest list has
-abbrev pub least : List (List Label) → ℕ
-least [] = 0
-least (l ∷ []) = length l
-least (l ∷ k ∷ ls) = min (length l) (least (k ∷ ls))
+use Rattle.std.specs.Prelude.{ℕ, pos, ◌≡◌, refl, ◌+◌, ◌*◌, ◌-◌, List, [], ◌∷◌, length, if◌then◌else◌, nat_eq}
+use Rattle.mm_label.specs.Fronts.{Label}
+use Rattle.mm_lists.specs.Shortest.{least}
 
 -- with k lists and a shortest of s nodes: k counts, and for each of the s nodes a left and a right match
 -- in each other list and the next node, after the first; the counts alone where a list is empty

@@ -1,7 +1,8 @@
 -- What the walk over one list keeps (Indexed Lookup Eager: Xu and Papakonstantinou, "Efficient Keyword
 -- Search for Smallest LCAs in XML Databases", SIGMOD 2005).
 use Rattle.std.specs.Prelude.{ℕ, List, [], ◌∷◌, ◌++◌, take, drop, ◌≡◌, ◌⊎◌, Option, cond}
-use Rattle.mm_lists.specs.Fronts.{Label, Front, is_front, Le, Apart, Within, Meets, IsFull, Rising}
+use Rattle.mm_label.specs.Fronts.{Label, Front, is_front, Le, Apart, Within, Meets}
+use Rattle.mm_lists.specs.Full.{IsFull, Rising}
 use Rattle.mm_lists.specs.Lists.{head_of}
 
 -- the answers so far, the candidate that is held, and the nodes of the list that were passed

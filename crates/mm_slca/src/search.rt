@@ -4,7 +4,7 @@ ghost use Rattle.mm_tree.specs.Numbering.{Labelled};
 ghost use Rattle.mm_tree.specs.Forests.{is_well_formed};
 ghost use Rattle.mm_tree.specs.Search.{list_of, lists_of, slca, worded};
 ghost use Rattle.mm_lists.specs.Causes.{Caused, IsSound};
-ghost use Rattle.mm_lists.specs.Fronts.{Full, or_empty};
+ghost use Rattle.mm_lists.specs.Full.{Full, or_empty};
 ghost use Rattle.mm_slca.specs.Bound.{cost_of};
 ghost use Rattle.mm_slca.specs.Walk.{Stands};
 

@@ -1,7 +1,7 @@
 //! The answers so far, and the candidate that is held back until no deeper one can come.
 
-ghost use Rattle.std.specs.Prelude.{◌≡◌, ◌<◌, IfOk, length};
-ghost use Rattle.mm_lists.specs.Fronts.{is_front, or_empty};
+ghost use Rattle.std.specs.Prelude.{◌≡◌, ◌<◌, IfOk};
+ghost use Rattle.mm_lists.specs.Full.{or_empty};
 ghost use Rattle.mm_slca.specs.Walk.{finished, taken_done, taken_held};
 
 use mm_label::Label;
@@ -13,13 +13,6 @@ use std::alloc::AllocError;
 pub struct Walk {
     pub done: Items<Label>,
     pub held: Option<Label>,
-}
-
-/// Whether the first is an ancestor of the second or the same.
-fn is_front(a: &Label, b: &Label) -> bool
-    ensures { result ≡ is_front a.now b.now }
-{
-    a.is_prefix(b)
 }
 
 /// Lets a candidate in: what is held then.
@@ -36,10 +29,10 @@ pub fn take_up(
     let Some(h) = held else {
         return Ok(Some(c));
     };
-    if is_front(&c, &h) {
+    if c.is_prefix(&h) {
         return Ok(Some(h));
     }
-    if is_front(&h, &c) {
+    if h.is_prefix(&c) {
         return Ok(Some(c));
     }
     done.push(h)?;

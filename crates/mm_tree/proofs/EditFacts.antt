@@ -2,7 +2,7 @@
 use Rattle.std.proofs.Common.{◌≡◌, refl, ap, sym, ◌∙◌, ℕ, ◌+◌, ◌-◌, ◌≤◌, ◌^◌, min, arith, Bool, true, false, ◌&&◌, ◌||◌, not, List, [], inl}
 use Rattle.std.specs.Prelude.{ℤ, Option, Some, None, if◌then◌else◌, nat_le, IfSome, Err}
 use Rattle.std.specs.Ordering.{is_lt}
-use Rattle.std.proofs.lemmas.Bool.{leb-true, le-leb}
+use Rattle.std.proofs.lemmas.Bool.{leb-true, le-leb, and_from, and_parts}
 use Rattle.mm_label.specs.Label.{is_segment, level, IsBefore}
 use Rattle.mm_label.specs.Between.{between, LiesBetween}
 use Rattle.mm_tree.specs.declared.plain.Kind.{Kind}
@@ -19,7 +19,6 @@ use Rattle.mm_tree.specs.Numbering.{Labelled, node_of, forest_of, number, fits, 
 use Rattle.mm_tree.specs.Forests.{are_labelled, has_valid_kind, are_elements, is_well_formed, IsRefusal}
 use Rattle.mm_tree.specs.Edits.{has_label, has, found, is_text, size_of, subtree_size, Change, taken_out, put_instead, put, edit, Gap, gap_at, gap, left_segment, right_segment, label_in, inserted_label, insert, delete, replace, is_inside, room_refusal, placed_refusal, insert_refusal, delete_refusal, replace_refusal}
 use Rattle.mm_tree.specs.Ways.{leads_to, found_down, edit_down, gap_down, IsOpen}
-use Rattle.mm_tree.proofs.NumberFacts.{both_true, both_parts}
 use Rattle.mm_tree.proofs.NumberForm.{number_form, valid_numbered}
 use Rattle.mm_tree.proofs.LabelledLaws.{parts}
 use Rattle.mm_tree.proofs.LoadFacts.{no_fit, no_fit_either, all_room, rises_is}
@@ -106,8 +105,8 @@ number_refused x t error.Memory h = tt
 
 lenient : Lenient has_valid_kind
 lenient e h =
-    let q = both_parts (is_valid_kind e.kind) (is_element e.kind || false) h in
-    both_true (is_valid_kind e.kind) _ q.0 (either (is_element e.kind))
+    let q = and_parts (is_valid_kind e.kind) (is_element e.kind || false) h in
+    and_from (is_valid_kind e.kind) _ q.0 (either (is_element e.kind))
   where
     either : (b : Bool) → (b || true) ≡ true
     either true = refl
@@ -115,8 +114,8 @@ lenient e h =
 
 with_child : (e : Labelled) (b : Bool) → is_element e.kind ≡ true → has_valid_kind e b ≡ true → has_valid_kind e true ≡ true
 with_child e b h k =
-    let q = both_parts (is_valid_kind e.kind) (is_element e.kind || not b) k in
-    both_true (is_valid_kind e.kind) _ q.0 (ap (λ z. z || false) h)
+    let q = and_parts (is_valid_kind e.kind) (is_element e.kind || not b) k in
+    and_from (is_valid_kind e.kind) _ q.0 (ap (λ z. z || false) h)
 
 second_so : (a b : Bool) → (a && b) ≡ false → a ≡ true → b ≡ false
 second_so true b e f = e
@@ -135,12 +134,12 @@ elements_put : (p : Place) (x : List ℤ) (u : Tree Labelled) (l : Option (List 
     → are_elements ts ≡ true → are_elements (edit_down (put p u) x ts) ≡ true
 elements_put p x u l none g h k t = refl
 elements_put p x u l (node e inner rest) g h k t =
-    let q = both_parts (is_element e.kind) (are_elements rest) t in
-    by_tests (leads_to x e) (has_label x e) h (λ m. both_true (is_element e.kind) _ q.0 (elements_put p x u (Some e.label) rest g m k q.1))
+    let q = and_parts (is_element e.kind) (are_elements rest) t in
+    by_tests (leads_to x e) (has_label x e) h (λ m. and_from (is_element e.kind) _ q.0 (elements_put p x u (Some e.label) rest g m k q.1))
   where
     here : (p : Place) → gap_at p [] l e inner rest ≡ g → are_elements (put p u e inner rest) ≡ true
-    here Before m = both_true (is_element u.0.kind) _ (k (ap (λ (z : Gap). z.parent) (sym m))) t
-    here After m = let q = both_parts (is_element e.kind) (are_elements rest) t in both_true (is_element e.kind) _ q.0 (both_true (is_element u.0.kind) _ (k (ap (λ (z : Gap). z.parent) (sym m))) q.1)
+    here Before m = and_from (is_element u.0.kind) _ (k (ap (λ (z : Gap). z.parent) (sym m))) t
+    here After m = let q = and_parts (is_element e.kind) (are_elements rest) t in and_from (is_element e.kind) _ q.0 (and_from (is_element u.0.kind) _ (k (ap (λ (z : Gap). z.parent) (sym m))) q.1)
     here First m = t
     here Last m = t
 
@@ -157,8 +156,8 @@ elements_keep : (f : Change) (x : List ℤ)
 elements_keep f x k left none l t = refl
 elements_keep f x k left (node e inner rest) l t =
     let p = parts [] left e inner rest l in
-    let q = both_parts (is_element e.kind) (are_elements rest) t in
-    by_tests (leads_to x e) (has_label x e) (λ m. k e inner rest (label_is x e m) p.whole t) (both_true (is_element e.kind) _ q.0 (elements_keep f x k (Some e.label) rest p.after q.1))
+    let q = and_parts (is_element e.kind) (are_elements rest) t in
+    by_tests (leads_to x e) (has_label x e) (λ m. k e inner rest (label_is x e m) p.whole t) (and_from (is_element e.kind) _ q.0 (elements_keep f x k (Some e.label) rest p.after q.1))
   where
     by_tests : (a b : Bool) → (b ≡ true → are_elements (f e inner rest) ≡ true) → are_elements (node e inner (edit_down f x rest)) ≡ true
         → are_elements (if a then (if b then f e inner rest else node e (edit_down f x inner) rest) else node e inner (edit_down f x rest)) ≡ true
@@ -177,19 +176,19 @@ pub record Form (forest : Trees Labelled) : Type 0 where
 
 pub form_of : (forest : Trees Labelled) → is_well_formed forest ≡ true → Form forest
 form_of forest w =
-    let a = both_parts (are_labelled [] None forest) (every has_room forest && (every has_valid_kind forest && (are_elements forest && nat_le (levels forest) 200))) w in
-    let b = both_parts (every has_room forest) (every has_valid_kind forest && (are_elements forest && nat_le (levels forest) 200)) a.1 in
-    let f = both_parts (every has_valid_kind forest) (are_elements forest && nat_le (levels forest) 200) b.1 in
-    let c = both_parts (are_elements forest) (nat_le (levels forest) 200) f.1 in
+    let a = and_parts (are_labelled [] None forest) (every has_room forest && (every has_valid_kind forest && (are_elements forest && nat_le (levels forest) 200))) w in
+    let b = and_parts (every has_room forest) (every has_valid_kind forest && (are_elements forest && nat_le (levels forest) 200)) a.1 in
+    let f = and_parts (every has_valid_kind forest) (are_elements forest && nat_le (levels forest) 200) b.1 in
+    let c = and_parts (are_elements forest) (nat_le (levels forest) 200) f.1 in
     let d : levels forest ≤ 200 = leb-true (levels forest) 200 c.1 in
     record { labels = a.0; room = b.0; kinds = f.0; elements = c.0; shallow = shallow 200 [] None forest a.0 (omega (arith, d)) }
 
 pub formed : (forest : Trees Labelled) → Form forest → is_well_formed forest ≡ true
 formed forest f =
     let d : level [] + levels forest ≤ 200 = shallow_only 200 [] None forest f.labels f.shallow (omega arith) in
-    both_true (are_labelled [] None forest) _ f.labels
-    (both_true (every has_room forest) _ f.room
-    (both_true (every has_valid_kind forest) _ f.kinds (both_true (are_elements forest) _ f.elements (le-leb (levels forest) 200 (omega (arith, d))))))
+    and_from (are_labelled [] None forest) _ f.labels
+    (and_from (every has_room forest) _ f.room
+    (and_from (every has_valid_kind forest) _ f.kinds (and_from (are_elements forest) _ f.elements (le-leb (levels forest) 200 (omega (arith, d))))))
 
 -- ---- an insertion
 
@@ -257,7 +256,7 @@ module _ (p : Place) (x : List ℤ) (forest new : Trees Labelled) (t : Tree Kind
       record {
         labels = put_keeps p u0 x [] None forest g f.labels s.down suits;
         room = every_put has_room p x u0 (λ e h. h) (all_room (label_in g) t s.label_fits room_below) forest (λ i e inner h b k. k) f.room;
-        kinds = every_put has_valid_kind p x u0 lenient (valid_numbered (label_in g) t (both_parts (every is_valid_node (one t)) _ s.valid).0) forest (λ i e inner h b k. with_child e b (target_is_element i e inner h) k) f.kinds;
+        kinds = every_put has_valid_kind p x u0 lenient (valid_numbered (label_in g) t (and_parts (every is_valid_node (one t)) _ s.valid).0) forest (λ i e inner h b k. with_child e b (target_is_element i e inner h) k) f.kinds;
         elements = elements_put p x u0 None forest g s.down (λ e. s.element (ap (λ z. level z) e)) f.elements;
         shallow = every_put (is_shallow 200) p x u0 (λ e h. h) (number_shallow 200 (label_in g) t low_enough) forest (λ i e inner h b k. k) f.shallow;
       }
@@ -277,7 +276,7 @@ deletion_formed x forest new w e =
       labels = delete_keeps x [] None forest f.labels;
       room = every_delete has_room x (λ e h. h) forest f.room;
       kinds = every_delete has_valid_kind x lenient forest f.kinds;
-      elements = elements_keep taken_out x (λ e inner rest h i k. (both_parts (is_element e.kind) (are_elements rest) k).1) None forest f.labels f.elements;
+      elements = elements_keep taken_out x (λ e inner rest h i k. (and_parts (is_element e.kind) (are_elements rest) k).1) None forest f.labels f.elements;
       shallow = every_delete (is_shallow 200) x (λ e h. h) forest f.shallow;
     })
 
@@ -311,8 +310,8 @@ pub record Replacing (x : List ℤ) (forest new : Trees Labelled) (t : Tree Kind
 pub fits_there : (x : List ℤ) (ts : Trees Labelled) → every has_room ts ≡ true → has x ts ≡ true → fits x ≡ true
 fits_there x none r h = absurd cc
 fits_there x (node e inner rest) r h =
-    let p = both_parts (fits e.label) (every has_room inner && every has_room rest) r in
-    let q = both_parts (every has_room inner) (every has_room rest) p.1 in
+    let p = and_parts (fits e.label) (every has_room inner && every has_room rest) r in
+    let q = and_parts (every has_room inner) (every has_room rest) p.1 in
     by_tests (has_label x e) (has x inner) h (λ k. ap (λ z. fits z) (sym (label_is x e k)) ∙ p.0) (fits_there x inner q.0) (fits_there x rest q.1)
   where
     by_tests : (a b : Bool) → (a || (b || has x rest)) ≡ true → (a ≡ true → fits x ≡ true) → (b ≡ true → fits x ≡ true) → (has x rest ≡ true → fits x ≡ true) → fits x ≡ true
@@ -349,8 +348,8 @@ module _ (x : List ℤ) (forest new : Trees Labelled) (t : Tree Kind) (u : Tree 
       ap (λ z. is_well_formed z) new_is_2 ∙ formed (edit_down (put_instead r) x forest) (record {
         labels = replace_keeps x r refl (number_form x t) [] None forest f.labels;
         room = every_replace has_room x r (λ e h. h) (all_room x t x_fits room_below_2) forest f.room;
-        kinds = every_replace has_valid_kind x r lenient (valid_numbered x t (both_parts (every is_valid_node (one t)) _ s.valid).0) forest f.kinds;
-        elements = elements_keep (put_instead r) x (λ e inner rest h i k. both_true (is_element t.0) _ (top e h i) (both_parts (is_element e.kind) (are_elements rest) k).1) None forest f.labels f.elements;
+        kinds = every_replace has_valid_kind x r lenient (valid_numbered x t (and_parts (every is_valid_node (one t)) _ s.valid).0) forest f.kinds;
+        elements = elements_keep (put_instead r) x (λ e inner rest h i k. and_from (is_element t.0) _ (top e h i) (and_parts (is_element e.kind) (are_elements rest) k).1) None forest f.labels f.elements;
         shallow = every_replace (is_shallow 200) x r (λ e h. h) (number_shallow 200 x t (omega (arith, some_level x forest s.well s.there, s.levels_fit))) forest f.shallow;
       })
 

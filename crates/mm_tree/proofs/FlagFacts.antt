@@ -1,5 +1,6 @@
 -- Lists of flags, one for each word of a query.
 use Rattle.std.proofs.Common.{◌≡◌, ℕ, zero, suc, ◌<◌, Bool, true, false, ◌||◌, List, [], ◌∷◌, length, get_or, take, map, replicate, ap, ap₂, refl, ◌∙◌, arith, slice_set}
+use Rattle.std.proofs.Math.Bool.{or-true}
 use Rattle.mm_tree.specs.Searching.{either}
 
 pub length-either : (flags others : List Bool) → length (either flags others) ≡ length flags
@@ -15,10 +16,6 @@ pub or_false : (b : Bool) → (b || false) ≡ b
 or_false true = refl
 or_false false = refl
 
-pub or_true : (b : Bool) → (b || true) ≡ true
-or_true true = refl
-or_true false = refl
-
 -- the next of the others isn't set, or is
 pub either_same : (flags others : List Bool) (i : ℕ) → i < length others → get_or others i false ≡ false → either flags (take (suc i) others) ≡ either flags (take i others)
 either_same [] others i h e = refl
@@ -29,7 +26,7 @@ either_same (f ∷ flags) (o ∷ others) (suc i) h e = ap (λ bs. (f || o) ∷ b
 pub either_set : (flags others : List Bool) (i : ℕ) → i < length others → get_or others i false ≡ true → either flags (take (suc i) others) ≡ slice_set (either flags (take i others)) i true
 either_set [] others i h e = refl
 either_set (f ∷ flags) [] i h e = absurd (omega (arith, h))
-either_set (f ∷ flags) (o ∷ others) zero h e = ap₂ (λ b bs. b ∷ bs) (ap (λ b. f || b) e ∙ or_true f) (either-none flags)
+either_set (f ∷ flags) (o ∷ others) zero h e = ap₂ (λ b bs. b ∷ bs) (ap (λ b. f || b) e ∙ or-true f) (either-none flags)
 either_set (f ∷ flags) (o ∷ others) (suc i) h e = ap (λ bs. (f || o) ∷ bs) (either_set flags others i (omega (arith, h)) e)
 
 -- flags of two tests

@@ -3,6 +3,7 @@ use Rattle.std.proofs.Common.{◌≡◌, refl, ap, sym, ◌∙◌, subst, Bool, 
 use Rattle.std.specs.Prelude.{ℤ, Option, Some, None, option_map, if◌then◌else◌}
 use Rattle.std.specs.List.{starts_with}
 use Rattle.std.specs.Ordering.{int_eq}
+use Rattle.std.proofs.lemmas.Bool.{and_from}
 use Rattle.mm_label.specs.Label.{is_segment}
 use Rattle.mm_tree.specs.declared.forest.place.Place.{Place}
 use Rattle.mm_tree.specs.declared.forest.place.Place.TheVariants.{Before, After, First, Last}
@@ -11,7 +12,6 @@ use Rattle.mm_tree.specs.Numbering.{Labelled}
 use Rattle.mm_tree.specs.Forests.{segment_below, is_before, rises, is_child_label, are_labelled, and_then, last_segment}
 use Rattle.mm_tree.specs.Edits.{has_label, Change, taken_out, put_instead, put, Gap, first_label, last_label, gap_at, left_segment, right_segment}
 use Rattle.mm_tree.specs.Ways.{leads_to, edit_down, gap_down}
-use Rattle.mm_tree.proofs.NumberFacts.{both_true}
 use Rattle.mm_tree.proofs.LabelledLaws.{child_ok, Parts, parts, whole_of, at_end}
 use Rattle.mm_tree.proofs.OrderLaws.{rises_more}
 use Rattle.mm_tree.proofs.WayLaws.{label_is}
@@ -51,7 +51,7 @@ in_front : (y : List ℤ) (left right : Option (List ℤ)) (u : Tree Labelled) (
     → ((s : List ℤ) → falls s (segment_of y right) ≡ true → are_labelled y (Some s) ts ≡ true) → are_labelled y (segment_of y left) (node u.0 u.1 ts) ≡ true
 in_front y left right u ts h f =
     let c = child_ok y h.segment u.0.label (segment_of y left) h.label h.whole h.above in
-    both_true (is_child_label y (segment_of y left) u.0.label) _ c.0 (both_true (are_labelled u.0.label None u.1) _ h.inner (ap (λ s. are_labelled y (Some s) ts) c.1 ∙ f h.segment h.below))
+    and_from (is_child_label y (segment_of y left) u.0.label) _ c.0 (and_from (are_labelled u.0.label None u.1) _ h.inner (ap (λ s. are_labelled y (Some s) ts) c.1 ∙ f h.segment h.below))
 
 pub last_is : (y : List ℤ) (l : Option (List ℤ)) (ts : Trees Labelled) → segment_of y (last_label l ts) ≡ last_segment y (segment_of y l) ts
 last_is y l none = refl
@@ -132,6 +132,6 @@ pub replace_keeps : (x : List ℤ) (u : Tree Labelled) → u.0.label ≡ x → a
 replace_keeps x u is inner_ok = change_keeps (put_instead u) x (λ y left e inner rest h l.
     let p = parts y left e inner rest l in
     let same_label : e.label ≡ u.0.label = h ∙ sym is in
-    both_true (is_child_label y left u.0.label) _
-    (ap (λ z. is_child_label y left z) (sym same_label) ∙ both_true (starts_with int_eq e.label y) _ p.front (both_true (is_segment (segment_below y e.label)) _ p.whole p.above))
-    (both_true (are_labelled u.0.label None u.1) _ inner_ok (ap (λ z. are_labelled y (Some (segment_below y z)) rest) (sym same_label) ∙ p.after)))
+    and_from (is_child_label y left u.0.label) _
+    (ap (λ z. is_child_label y left z) (sym same_label) ∙ and_from (starts_with int_eq e.label y) _ p.front (and_from (is_segment (segment_below y e.label)) _ p.whole p.above))
+    (and_from (are_labelled u.0.label None u.1) _ inner_ok (ap (λ z. are_labelled y (Some (segment_below y z)) rest) (sym same_label) ∙ p.after)))

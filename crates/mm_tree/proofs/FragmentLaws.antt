@@ -1,14 +1,11 @@
 -- Below a node none of whose children is full no node is full, and fragments keep what MaxMatch keeps.
-use Rattle.std.proofs.Common.{◌≡◌, ℕ, Bool, true, false, cond, not, ◌&&◌, ◌||◌, List, ◌∷◌, refl, ap, ap₂, ◌∙◌}
+use Rattle.std.proofs.Common.{◌≡◌, ℕ, Bool, true, false, cond, not, ◌&&◌, List, ◌∷◌, refl, ap, ap₂, ◌∙◌}
 use Rattle.std.specs.List.{list_any}
+use Rattle.std.proofs.lemmas.Bool.{or_parts}
 use Rattle.mm_tree.specs.Trees.{Trees, none, node}
 use Rattle.mm_tree.specs.Search.{is_full, some_full}
 use Rattle.mm_tree.specs.Fragments.{Named, bare, bares, row_of, some, less, rows_of, all_rows, shown, contributors, relevant}
 use Rattle.mm_tree.proofs.SearchFacts.{full_of_child}
-
-neither : (a b : Bool) → (a || b) ≡ false → (a ≡ false) × (b ≡ false)
-neither true b e = absurd cc
-neither false b e = (refl, e)
 
 none_below : (query : List (List ℕ)) (e : Named) (inner : Trees Named) → is_full query (bare e) (bares inner) ≡ false → some_full query (bares inner) ≡ false
 none_below query e inner f = by (some_full query (bares inner)) refl
@@ -20,13 +17,13 @@ none_below query e inner f = by (some_full query (bares inner)) refl
 rows_are : (query : List (List ℕ)) (f : Trees Named) → some_full query (bares f) ≡ false → rows_of query f ≡ all_rows query f
 rows_are query none h = refl
 rows_are query (node e inner rest) h =
-    let n = neither (is_full query (bare e) (bares inner)) (some_full query (bares rest)) h in
+    let n = or_parts (is_full query (bare e) (bares inner)) (some_full query (bares rest)) h in
     ap (λ (t : Bool). cond t (rows_of query rest) (row_of query e inner ∷ rows_of query rest)) n.0 ∙ ap (λ (rows : List (List Bool)). row_of query e inner ∷ rows) (rows_are query rest n.1)
 
 kept_are : (query : List (List ℕ)) (all : List (List Bool)) (f : Trees Named) → some_full query (bares f) ≡ false → contributors query all f ≡ relevant query all f
 kept_are query all none h = refl
 kept_are query all (node e inner rest) h =
-    let n = neither (is_full query (bare e) (bares inner)) (some_full query (bares rest)) h in
+    let n = or_parts (is_full query (bare e) (bares inner)) (some_full query (bares rest)) h in
     let b = none_below query e inner n.0 in
     let test = some (row_of query e inner) && not (list_any (less (row_of query e inner)) all) in
     ap (λ (t : Bool). cond (not t && test) (node (shown query e) (contributors query (rows_of query inner) inner) (contributors query all rest)) (contributors query all rest)) n.0

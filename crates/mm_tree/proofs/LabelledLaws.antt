@@ -5,12 +5,12 @@ use Rattle.std.specs.List.{starts_with}
 use Rattle.std.specs.Ordering.{int_eq}
 use Rattle.std.proofs.lemmas.Slice.Eq.{starts_is}
 use Rattle.std.proofs.lemmas.Bool.Decides.{Decides-int_eq}
+use Rattle.std.proofs.lemmas.Bool.{and_from, and_parts}
 use Rattle.mm_label.specs.Label.{is_segment}
 use Rattle.mm_tree.specs.Trees.{Trees, none, node, Tree, one, every, has_some, levels}
 use Rattle.mm_tree.specs.Numbering.{Labelled}
 use Rattle.mm_tree.specs.Forests.{segment_below, rises, is_child_label, are_labelled, are_elements, and_then, last_segment}
 use Rattle.mm_tree.specs.Validity.{is_element}
-use Rattle.mm_tree.proofs.NumberFacts.{both_true, both_parts}
 
 pub front_splits : (parent label : List ℤ) → starts_with int_eq label parent ≡ true → label ≡ parent ++ segment_below parent label
 front_splits parent label = (starts_is Decides-int_eq label parent (starts_with int_eq label parent) refl).0
@@ -26,7 +26,7 @@ drop_front (c ∷ y) s = drop_front y s
 pub child_ok : (y s label : List ℤ) (left : Option (List ℤ)) → label ≡ y ++ s → is_segment s ≡ true → rises left s ≡ true → (is_child_label y left label ≡ true) × (segment_below y label ≡ s)
 child_ok y s label left e w r =
     let t : segment_below y label ≡ s = ap (λ z. drop (length y) z) e ∙ drop_front y s in
-    (both_true (starts_with int_eq label y) _ (front_is y label s e) (both_true (is_segment (segment_below y label)) _ (ap (λ z. is_segment z) t ∙ w) (ap (λ z. rises left z) t ∙ r)), t)
+    (and_from (starts_with int_eq label y) _ (front_is y label s e) (and_from (is_segment (segment_below y label)) _ (ap (λ z. is_segment z) t ∙ w) (ap (λ z. rises left z) t ∙ r)), t)
 
 -- the parts of labelled siblings
 pub record Parts (y : List ℤ) (left : Option (List ℤ)) (e : Labelled) (inner rest : Trees Labelled) : Type 0 where
@@ -39,20 +39,20 @@ pub record Parts (y : List ℤ) (left : Option (List ℤ)) (e : Labelled) (inner
 pub parts : (y : List ℤ) (left : Option (List ℤ)) (e : Labelled) (inner rest : Trees Labelled) → are_labelled y left (node e inner rest) ≡ true → Parts y left e inner rest
 parts y left e inner rest l =
     let s = segment_below y e.label in
-    let p = both_parts (is_child_label y left e.label) (are_labelled e.label None inner && are_labelled y (Some s) rest) l in
-    let q = both_parts (are_labelled e.label None inner) (are_labelled y (Some s) rest) p.1 in
-    let c = both_parts (starts_with int_eq e.label y) (is_segment s && rises left s) p.0 in
-    let d = both_parts (is_segment s) (rises left s) c.1 in
+    let p = and_parts (is_child_label y left e.label) (are_labelled e.label None inner && are_labelled y (Some s) rest) l in
+    let q = and_parts (are_labelled e.label None inner) (are_labelled y (Some s) rest) p.1 in
+    let c = and_parts (starts_with int_eq e.label y) (is_segment s && rises left s) p.0 in
+    let d = and_parts (is_segment s) (rises left s) c.1 in
     record { front = c.0; whole = d.0; above = d.1; below = q.0; after = q.1 }
 
 pub whole_of : (y : List ℤ) (left : Option (List ℤ)) (e : Labelled) (inner rest : Trees Labelled) → Parts y left e inner rest → are_labelled y left (node e inner rest) ≡ true
 whole_of y left e inner rest p =
-    both_true (is_child_label y left e.label) _ (both_true (starts_with int_eq e.label y) _ p.front (both_true (is_segment (segment_below y e.label)) _ p.whole p.above)) (both_true (are_labelled e.label None inner) _ p.below p.after)
+    and_from (is_child_label y left e.label) _ (and_from (starts_with int_eq e.label y) _ p.front (and_from (is_segment (segment_below y e.label)) _ p.whole p.above)) (and_from (are_labelled e.label None inner) _ p.below p.after)
 
 -- a tree behind its siblings
 pub at_end : (y : List ℤ) (left : Option (List ℤ)) (u : Tree Labelled) (s : List ℤ) (ts : Trees Labelled) → are_labelled y left ts ≡ true → u.0.label ≡ y ++ s → is_segment s ≡ true
     → rises (last_segment y left ts) s ≡ true → are_labelled u.0.label None u.1 ≡ true → are_labelled y left (and_then ts (one u)) ≡ true
-at_end y left u s none l e w r inner_ok = both_true (is_child_label y left u.0.label) _ (child_ok y s u.0.label left e w r).0 (both_true (are_labelled u.0.label None u.1) _ inner_ok refl)
+at_end y left u s none l e w r inner_ok = and_from (is_child_label y left u.0.label) _ (child_ok y s u.0.label left e w r).0 (and_from (are_labelled u.0.label None u.1) _ inner_ok refl)
 at_end y left u s (node a inner rest) l e w r inner_ok =
     let p = parts y left a inner rest l in
     whole_of y left a inner (and_then rest (one u)) (record { front = p.front; whole = p.whole; above = p.above; below = p.below; after = at_end y (Some (segment_below y a.label)) u s rest p.after e w r inner_ok })
@@ -60,15 +60,15 @@ at_end y left u s (node a inner rest) l e w r inner_ok =
 pub every_behind : {A : Type 0} (test : A → Bool → Bool) (ts us : Trees A) → every test ts ≡ true → every test us ≡ true → every test (and_then ts us) ≡ true
 every_behind test none us h k = k
 every_behind test (node e inner rest) us h k =
-    let p = both_parts (test e (has_some inner)) (every test inner && every test rest) h in
-    let q = both_parts (every test inner) (every test rest) p.1 in
-    both_true (test e (has_some inner)) _ p.0 (both_true (every test inner) _ q.0 (every_behind test rest us q.1 k))
+    let p = and_parts (test e (has_some inner)) (every test inner && every test rest) h in
+    let q = and_parts (every test inner) (every test rest) p.1 in
+    and_from (test e (has_some inner)) _ p.0 (and_from (every test inner) _ q.0 (every_behind test rest us q.1 k))
 
 pub elements_behind : (ts us : Trees Labelled) → are_elements ts ≡ true → are_elements us ≡ true → are_elements (and_then ts us) ≡ true
 elements_behind none us h k = k
 elements_behind (node e inner rest) us h k =
-    let p = both_parts (is_element e.kind) (are_elements rest) h in
-    both_true (is_element e.kind) _ p.0 (elements_behind rest us p.1 k)
+    let p = and_parts (is_element e.kind) (are_elements rest) h in
+    and_from (is_element e.kind) _ p.0 (elements_behind rest us p.1 k)
 
 pub levels-and_then : {A : Type 0} (ts us : Trees A) → levels (and_then ts us) ≡ max (levels ts) (levels us)
 levels-and_then none us = omega arith

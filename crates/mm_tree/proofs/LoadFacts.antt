@@ -1,10 +1,9 @@
 -- What a load needs: the last tree's segment, the causes of a refusal, and that the forest stays well formed.
 use Rattle.std.proofs.Common.{◌≡◌, refl, ap, sym, subst, ◌∙◌, ℕ, suc, ◌-◌, ◌≤◌, Bool, true, false, ◌&&◌, not, List, [], ◌∷◌, ◌++◌, length, arith, cond, ◌⊎◌, inl, inr}
-use Rattle.std.specs.Prelude.{ℤ, Option, Some, None, Result, Err, slice_get, nat_le, IfSome, find}
-use Rattle.std.specs.Prelude.{Vec, IfOk, IfErr}
+use Rattle.std.specs.Prelude.{ℤ, Option, Some, None, Result, Err, slice_get, nat_le, IfSome, find, Vec, IfOk, IfErr}
 use Rattle.std.specs.Global.{Global}
 use Rattle.std.specs.Ordering.{is_lt}
-use Rattle.std.proofs.lemmas.Bool.{leb-true, le-leb, lt-leb}
+use Rattle.std.proofs.lemmas.Bool.{leb-true, le-leb, lt-leb, and_from, and_parts}
 use Rattle.mm_label.specs.Bytes.{bytes_of}
 use Rattle.mm_label.specs.Label.{is_odd, is_empty, is_segment, is_in_range, all_in_range, last_odd, IsLabel, IsLastSegment, IsBefore}
 use Rattle.mm_label.specs.Between.{between, first_out, LiesBetween}
@@ -25,7 +24,6 @@ use Rattle.mm_tree.specs.Refusals.{of_label}
 use Rattle.mm_tree.specs.Validity.{is_element, is_valid_node, is_valid_tree}
 use Rattle.mm_tree.specs.Numbering.{Labelled, node_of, node_step, forest_of, number, fits, has_room, Labels, Numbers}
 use Rattle.mm_tree.specs.Forests.{rises, are_labelled, has_valid_kind, are_elements, is_well_formed, and_then, last_segment, next_label, numbered_behind, load, load_refusal, IsRefusal}
-use Rattle.mm_tree.proofs.NumberFacts.{both_true, both_parts}
 use Rattle.mm_tree.proofs.LabelledLaws.{parts, at_end, every_behind, elements_behind, levels-and_then}
 use Rattle.mm_tree.proofs.NumberForm.{number_form, levels-number, valid_numbered}
 
@@ -60,7 +58,7 @@ refused_label (label_error.Full n) x h = (refl, no_fit_either (all_in_range x) _
 refused_label label_error.Memory x h = tt
 
 pub label_fits : (x : List ℤ) → IsLabel x → fits x ≡ true
-label_fits x h = both_true (all_in_range x) _ h.in_range (le-leb (length (bytes_of x)) 512 h.short)
+label_fits x h = and_from (all_in_range x) _ h.in_range (le-leb (length (bytes_of x)) 512 h.short)
 
 -- ---- the last tree's segment
 
@@ -111,7 +109,7 @@ pub goes_on_from : (ns : List Node) (n : Node) (front s : List ℤ) → is_well_
     → IsLastSegment (out-Node n).label front s → last_segment [] None (forest_of ns) ≡ Some s
 goes_on_from ns n front s w h last =
     let l = last_node None ns n h in
-    let whole = last_whole None (forest_of ns) (out-Node n).label (both_parts (are_labelled [] None (forest_of ns)) _ w).0 tt l in
+    let whole = last_whole None (forest_of ns) (out-Node n).label (and_parts (are_labelled [] None (forest_of ns)) _ w).0 tt l in
     l ∙ ap (λ z. Some z) (sym (whole_label (out-Node n).label front s whole last))
 
 pub no_last : (ns : List Node) → slice_get ns (length ns - 1) ≡ None → last_segment [] None (forest_of ns) ≡ None
@@ -150,7 +148,7 @@ pub is_accepted : (t : Tree Kind) (forest : Trees Labelled) → is_element t.0 �
 is_accepted t forest e n r = rw (e, le-leb (levels (one t)) 200 n, r) refl
 
 pub all_room : (x : List ℤ) (t : Tree Kind) → fits x ≡ true → every has_room (number x t).1 ≡ true → every has_room (one (number x t)) ≡ true
-all_room x t f g = both_true (fits x) _ f (both_true (every has_room (number x t).1) _ g refl)
+all_room x t f g = and_from (fits x) _ f (and_from (every has_room (number x t).1) _ g refl)
 
 -- the root's label doesn't fit
 pub label_refused : (t : Tree Kind) (forest : Trees Labelled) (e : TreeError) → is_element t.0 ≡ true → levels (one t) ≤ 200 → Labels (Err e) (next_label forest) → IsRefusal e (load_refusal t forest)
@@ -185,16 +183,16 @@ pub load_formed : (t : Tree Kind) (forest : Trees Labelled) → is_well_formed f
 load_formed t forest w v k n r lies =
     let x = next_label forest in
     let u = number x t in
-    let a = both_parts (are_labelled [] None forest) (every has_room forest && (every has_valid_kind forest && (are_elements forest && nat_le (levels forest) 200))) w in
-    let b = both_parts (every has_room forest) (every has_valid_kind forest && (are_elements forest && nat_le (levels forest) 200)) a.1 in
-    let f = both_parts (every has_valid_kind forest) (are_elements forest && nat_le (levels forest) 200) b.1 in
-    let c = both_parts (are_elements forest) (nat_le (levels forest) 200) f.1 in
+    let a = and_parts (are_labelled [] None forest) (every has_room forest && (every has_valid_kind forest && (are_elements forest && nat_le (levels forest) 200))) w in
+    let b = and_parts (every has_room forest) (every has_valid_kind forest && (are_elements forest && nat_le (levels forest) 200)) a.1 in
+    let f = and_parts (every has_valid_kind forest) (are_elements forest && nat_le (levels forest) 200) b.1 in
+    let c = and_parts (are_elements forest) (nat_le (levels forest) 200) f.1 in
     let d : levels forest ≤ 200 = leb-true (levels forest) 200 c.1 in
     let m : levels (load t forest) ≤ 200 = omega (arith, levels-and_then forest (one u), levels-number x t, d, n) in
-    both_true (are_labelled [] None (load t forest)) _ (at_end [] None u x forest a.0 refl lies.one (rises_is (last_segment [] None forest) x lies.above) (number_form x t))
-    (both_true (every has_room (load t forest)) _ (every_behind has_room forest (one u) b.0 r)
-    (both_true (every has_valid_kind (load t forest)) _ (every_behind has_valid_kind forest (one u) f.0 (valid_numbered x t v))
-    (both_true (are_elements (load t forest)) _ (elements_behind forest (one u) c.0 (both_true (is_element t.0) _ k refl)) (le-leb (levels (load t forest)) 200 m))))
+    and_from (are_labelled [] None (load t forest)) _ (at_end [] None u x forest a.0 refl lies.one (rises_is (last_segment [] None forest) x lies.above) (number_form x t))
+    (and_from (every has_room (load t forest)) _ (every_behind has_room forest (one u) b.0 r)
+    (and_from (every has_valid_kind (load t forest)) _ (every_behind has_valid_kind forest (one u) f.0 (valid_numbered x t v))
+    (and_from (are_elements (load t forest)) _ (elements_behind forest (one u) c.0 (and_from (is_element t.0) _ k refl)) (le-leb (levels (load t forest)) 200 m))))
 
 element_is : (tree : Plain) (b : Bool) → b ≡ not (is_element (out-Plain tree).kind) → b ≡ false → is_element (tree_of tree).0 ≡ true
 element_is tree b e f = ap (λ (t : Tree Kind). is_element t.0) (tree_of_out tree) ∙ so_after_all (is_element (out-Plain tree).kind) (sym e ∙ f)
@@ -234,4 +232,4 @@ module _ (ns ms : List Node) (n : Node) (tree : Plain) (x : List ℤ) (text : Bo
   pub steps_form : is_well_formed (forest_of ms) ≡ true
   steps_form =
       ap (λ f. is_well_formed f) steps_load
-      ∙ load_formed (tree_of tree) (forest_of ns) s.formed (both_parts (every is_valid_node (one (tree_of tree))) _ s.valid).0 element s.levels_fit room (subst (λ z. LiesBetween (last_segment [] None (forest_of ns)) z None) s.label s.lies)
+      ∙ load_formed (tree_of tree) (forest_of ns) s.formed (and_parts (every is_valid_node (one (tree_of tree))) _ s.valid).0 element s.levels_fit room (subst (λ z. LiesBetween (last_segment [] None (forest_of ns)) z None) s.label s.lies)

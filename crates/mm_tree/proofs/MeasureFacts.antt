@@ -1,7 +1,7 @@
 -- Levels and nodes of trees, one tree after the other.
 use Rattle.std.proofs.Common.{◌≡◌, ℕ, ◌+◌, ◌<◌, ◌≤◌, ◌-◌, ◌^◌, min, true, List, ◌∷◌, length, get_or, drop, ap, sym, ◌∙◌, add-one, arith, drop-cons}
 use Rattle.std.specs.Prelude.{max, nat_lt}
-use Rattle.std.proofs.lemmas.Bool.{ltb-true}
+use Rattle.std.proofs.lemmas.Bool.{ltb-true, and_parts}
 use Rattle.std.proofs.lemmas.List.{drop_all}
 use Rattle.mm_tree.specs.declared.plain.Kind.{Kind}
 use Rattle.mm_tree.specs.declared.plain.Kind.TheVariants.{Element, Words}
@@ -9,7 +9,6 @@ use Rattle.mm_tree.specs.declared.plain.Plain.{Plain}
 use Rattle.mm_tree.specs.declared.plain.Plain.TheViews.{out-Plain}
 use Rattle.mm_tree.specs.Trees.{Trees, none, node, Tree, one, every, levels, nodes, trees_of, tree_of_out}
 use Rattle.mm_tree.specs.Validity.{piece_count, pieces, is_valid_node, is_valid_tree}
-use Rattle.mm_tree.proofs.NumberFacts.{both_parts}
 
 next_is : (xs : List Plain) (i : ℕ) (x : Plain) → i < length xs → x ≡ get_or xs i x → drop i xs ≡ x ∷ drop (i + 1) xs
 next_is xs i x h e = drop-cons xs i x h ∙ (λ j. sym e j ∷ drop (sym (add-one i) j) xs)
@@ -73,6 +72,6 @@ nodes_le_pieces (node kind inner rest) = omega (arith, one_piece kind, nodes_le_
 -- a valid tree has so few nodes that their number fits
 pub node_count_fits : (t : Tree Kind) (n : ℕ) → is_valid_tree t ≡ true → n ≡ min (nodes (one t)) limit → n ≡ nodes (one t)
 node_count_fits t n v e =
-    let p = both_parts (every is_valid_node (one t)) (nat_lt (pieces (one t)) (2 ^ 31)) v in
+    let p = and_parts (every is_valid_node (one t)) (nat_lt (pieces (one t)) (2 ^ 31)) v in
     let h : pieces (one t) < 2 ^ 31 = ltb-true (pieces (one t)) (2 ^ 31) p.1 in
     omega (arith, e, h, nodes_le_pieces (one t))

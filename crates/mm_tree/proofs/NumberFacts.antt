@@ -1,6 +1,6 @@
 -- Numbering the children one after the other numbers the tree.
 use Rattle.std.proofs.Common.{◌≡◌, ℕ, ◌+◌, ◌<◌, Bool, true, false, ◌&&◌, List, [], ◌∷◌, ◌++◌, length, arith, refl, ap, sym, ◌∙◌, append_assoc}
-use Rattle.std.specs.Prelude.{ℤ, map, Err}
+use Rattle.std.specs.Prelude.{ℤ, map, Err, pos, ◌*◌, ◌-◌}
 use Rattle.mm_tree.specs.declared.plain.Plain.{Plain}
 use Rattle.mm_tree.specs.declared.plain.Plain.TheViews.{out-Plain}
 use Rattle.mm_tree.specs.declared.node.Node.{Node}
@@ -11,8 +11,7 @@ use Rattle.mm_tree.specs.Trees.{node, Tree, siblings, every, tree_of, tree_of_ou
 use Rattle.mm_tree.specs.declared.refusal.TreeError.{TreeError}
 use Rattle.mm_tree.specs.declared.refusal.TreeError.TheVariants as error
 use Rattle.std.proofs.lemmas.List.{append-nil, map-append, length-append}
-use Rattle.std.proofs.lemmas.Bool.{le-ltb}
-use Rattle.std.specs.Prelude.{pos, ◌*◌, ◌-◌}
+use Rattle.std.proofs.lemmas.Bool.{le-ltb, and_from, and_parts}
 use Rattle.mm_label.specs.Label.{is_in_range, all_in_range}
 use Rattle.mm_tree.specs.Numbering.{Labelled, child_label, number, number_from, fits, has_room, node_of, node_step, Labels, Numbers}
 
@@ -36,13 +35,6 @@ first_false false b c e = refl
 
 left_false : (a b : Bool) → a ≡ false → (a && b) ≡ false
 left_false a b e = rw e refl
-
-pub both_true : (a b : Bool) → a ≡ true → b ≡ true → (a && b) ≡ true
-both_true a b e f = rw (e, f) refl
-
-pub both_parts : (a b : Bool) → (a && b) ≡ true → (a ≡ true) × (b ≡ true)
-both_parts true b e = (refl, e)
-both_parts false b e = absurd cc
 
 -- one that doesn't fit is among them
 one_too_long : (a b : List (Tree Labelled)) (x : Tree Labelled) → (fits x.0.label && every has_room x.1) ≡ false → every has_room (siblings (a ++ x ∷ b)) ≡ false
@@ -124,9 +116,9 @@ goes_on y i j all ns ms n items rest child e same is pushed next =
 room_behind : (ts us : List (Tree Labelled)) → every has_room (siblings ts) ≡ true → every has_room (siblings us) ≡ true → every has_room (siblings (ts ++ us)) ≡ true
 room_behind [] us f g = g
 room_behind (t ∷ ts) us f g =
-    let p = both_parts (fits t.0.label) (every has_room t.1 && every has_room (siblings ts)) f in
-    let q = both_parts (every has_room t.1) (every has_room (siblings ts)) p.1 in
-    both_true (fits t.0.label) _ p.0 (both_true (every has_room t.1) _ q.0 (room_behind ts us q.1 g))
+    let p = and_parts (fits t.0.label) (every has_room t.1 && every has_room (siblings ts)) f in
+    let q = and_parts (every has_room t.1) (every has_room (siblings ts)) p.1 in
+    and_from (fits t.0.label) _ p.0 (and_from (every has_room t.1) _ q.0 (room_behind ts us q.1 g))
 
 pub still_fit : (ns ms : List Node) (n : Node) (x : List ℤ) (t : Tree Kind) → ms ≡ ns ++ n ∷ [] → every has_room (siblings (map node_of ns)) ≡ true
     → node_of n ≡ number x t → fits x ≡ true → every has_room (number x t).1 ≡ true → every has_room (siblings (map node_of ms)) ≡ true
@@ -134,7 +126,7 @@ still_fit ns ms n x t pushed fit is short all =
     ap (λ (zs : List Node). every has_room (siblings (map node_of zs))) pushed
     ∙ ap (λ (zs : List (Tree Labelled)). every has_room (siblings zs)) (map-append node_of ns (n ∷ []))
     ∙ room_behind (map node_of ns) (node_of n ∷ []) fit
-    (ap (λ (u : Tree Labelled). every has_room (siblings (u ∷ []))) is ∙ both_true (fits x) _ short (both_true (every has_room (number x t).1) _ all refl))
+    (ap (λ (u : Tree Labelled). every has_room (siblings (u ∷ []))) is ∙ and_from (fits x) _ short (and_from (every has_room (number x t).1) _ all refl))
 
 pub next_place : (ns : List Node) (n : Node) (ms : List Node) → ms ≡ ns ++ n ∷ [] → length ms + 1 ≡ length ns + 1 + 1
 next_place ns n ms e = omega (arith, ap (λ (zs : List Node). length zs) e, length-append ns (n ∷ []))

@@ -3,6 +3,7 @@ use Rattle.std.proofs.Common.{◌≡◌, refl, ap, sym, subst, ◌∙◌, Bool, 
 use Rattle.std.specs.Prelude.{ℤ, Option, Some, None, IfSome, IsTrue, if◌then◌else◌, Err}
 use Rattle.std.specs.List.{starts_with}
 use Rattle.std.specs.Ordering.{int_eq}
+use Rattle.std.proofs.lemmas.Bool.{and_from, and_parts}
 use Rattle.mm_label.specs.Label.{is_odd, is_empty, is_segment, is_in_range, all_in_range, last_odd}
 use Rattle.mm_label.specs.Answers.{RefusesSegment}
 use Rattle.mm_label.specs.declared.LabelError.{LabelError}
@@ -16,7 +17,6 @@ use Rattle.mm_tree.specs.Numbering.{Labelled, Labels}
 use Rattle.mm_tree.specs.Forests.{segment_below, rises, are_labelled}
 use Rattle.mm_tree.specs.Edits.{has_label, Gap, first_label, last_label, gap_at}
 use Rattle.mm_tree.specs.Ways.{leads_to, gap_down, is_below, IsOpen, EndsIn}
-use Rattle.mm_tree.proofs.NumberFacts.{both_true, both_parts}
 use Rattle.mm_tree.proofs.LabelledLaws.{front_splits, Parts, parts}
 use Rattle.mm_tree.proofs.OrderLaws.{before_is}
 use Rattle.mm_tree.proofs.LoadFacts.{alone, out_of_range, no_fit, no_fit_either}
@@ -59,14 +59,14 @@ segments_are y None None e h k = refl
 segments_are y None (Some s) e h k = absurd k
 segments_are y (Some l) None e h k = absurd k
 segments_are y (Some l) (Some s) e h k =
-    let p = both_parts (starts_with int_eq l y) (is_segment (segment_below y l)) h in
+    let p = and_parts (starts_with int_eq l y) (is_segment (segment_below y l)) h in
     let last = k.0.1 in
     ap (λ (z : List ℤ). Some z) (last_segment_is k.0.0 s y (segment_below y l) (sym last.parts ∙ front_splits y l p.0) last.one p.1 last.before e)
 
 -- ---- every gap of a well-formed forest is open
 
 below_of : (y : List ℤ) (left : Option (List ℤ)) (e : Labelled) (inner rest : Trees Labelled) → Parts y left e inner rest → is_below y e.label ≡ true
-below_of y left e inner rest p = both_true (starts_with int_eq e.label y) _ p.front p.whole
+below_of y left e inner rest p = and_from (starts_with int_eq e.label y) _ p.front p.whole
 
 ends_of : (y : List ℤ) (left : Option (List ℤ)) (e : Labelled) (inner rest : Trees Labelled) → Parts y left e inner rest → Ends e.label
 ends_of y left e inner rest p = inr (ap (λ (z : List ℤ). last_odd false z) (front_splits y e.label p.front) ∙ ends_odd y (segment_below y e.label) false p.whole)

@@ -9,12 +9,13 @@ use Rattle.std.proofs.lemmas.Bool.Decides.{Decides-int_eq}
 use Rattle.std.proofs.lemmas.List.{append-nil, map-append}
 use Rattle.std.proofs.lemmas.List.Elements.{All-nil, All-cons}
 use Rattle.std.proofs.lemmas.List.Kept.{AllPairs-cons}
+use Rattle.std.proofs.lemmas.Bool.{and_parts}
 use Rattle.mm_label.specs.Label.{is_odd, is_empty, is_segment, IsBefore}
+use Rattle.mm_label.specs.Facts.Order.{lt_is}
 use Rattle.mm_tree.specs.Trees.{Trees, none, node, preorder}
 use Rattle.mm_tree.specs.Numbering.{Labelled}
 use Rattle.mm_tree.specs.Forests.{segment_below, is_before, rises, are_labelled, is_well_formed}
 use Rattle.mm_tree.specs.Order.{labels}
-use Rattle.mm_tree.proofs.NumberFacts.{both_parts}
 use Rattle.mm_tree.proofs.LabelledLaws.{front_splits, parts}
 
 -- ---- the order of lists
@@ -66,11 +67,6 @@ pub record Under (parent : List ℤ) (left : Option (List ℤ)) (x : List ℤ) :
   pub is : x ≡ parent ++ (segment ++ more)
   pub whole : is_segment segment ≡ true
   pub above : rises left segment ≡ true
-
-lt_is : (o : Ordering) → is_lt o ≡ true → o ≡ Less
-lt_is Less e = refl
-lt_is Equal e = absurd cc
-lt_is Greater e = absurd cc
 
 pub before_is : (a b : List ℤ) → is_before a b ≡ true → IsBefore a b
 before_is a b e = lt_is _ e
@@ -150,4 +146,4 @@ rise y left (node e inner rest) l =
     subst (λ (z : List (List ℤ)). Rise z) (sym (labels_node e inner rest)) (each_behind (IsBefore e.label) (labels inner) (labels rest) first_inside first_after, rise_behind (labels inner) (labels rest) (rise e.label None inner p.below) (rise y (Some s) rest p.after) across)
 
 pub preorder_rises : (forest : Trees Labelled) → is_well_formed forest ≡ true → AllPairs IsBefore (labels forest)
-preorder_rises forest w = pairs_from (labels forest) (rise [] None forest (both_parts (are_labelled [] None forest) _ w).0)
+preorder_rises forest w = pairs_from (labels forest) (rise [] None forest (and_parts (are_labelled [] None forest) _ w).0)

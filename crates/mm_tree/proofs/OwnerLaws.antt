@@ -1,6 +1,7 @@
 -- The nodes that own every word of a query are full, in document order, and the smallest full nodes are among them.
 use Rattle.std.proofs.Common.{◌≡◌, refl, sym, subst, ℕ, ◌⊎◌, inl, inr, Bool, true, false, cond, not, ◌&&◌, ◌||◌, List, [], ◌∷◌, ◌++◌, Contains, AllPairs}
 use Rattle.std.specs.Prelude.{ℤ, None}
+use Rattle.std.proofs.lemmas.Bool.{and_from, and_parts}
 use Rattle.mm_label.specs.Label.{IsBefore}
 use Rattle.mm_tree.specs.Trees.{Trees, none, node}
 use Rattle.mm_tree.specs.Numbering.{Labelled}
@@ -13,7 +14,6 @@ use Rattle.mm_tree.proofs.OrderLaws.{Each, Rise, rise, pairs_from, labels_node}
 use Rattle.mm_tree.proofs.OwnerFacts.{outside_holds}
 use Rattle.mm_tree.proofs.SmallestLaws.{Within, within_from, contains_from, in_joined, in_left, in_right, full_here, full_inside, full_behind}
 use Rattle.mm_tree.proofs.SearchFacts.{part}
-use Rattle.mm_tree.proofs.NumberFacts.{both_true, both_parts}
 use Rattle.mm_tree.proofs.WayLaws.{labels_of}
 
 -- ---- where no sibling is full, what is held is held outside
@@ -31,8 +31,8 @@ all_outside w query (node e inner rest) n h = by (is_full query e inner) (has e 
 full_owns : (query words : List (List ℕ)) (e : Worded) (inner : Trees Worded) → some_full query inner ≡ false → is_full words e inner ≡ true → owns words query e inner ≡ true
 full_owns query [] e inner n h = refl
 full_owns query (w ∷ words) e inner n h =
-    let p = both_parts (has e w || holds w inner) (is_full words e inner) h in
-    both_true (has e w || outside w query inner) (owns words query e inner) (by (has e w) p.0) (full_owns query words e inner n p.1)
+    let p = and_parts (has e w || holds w inner) (is_full words e inner) h in
+    and_from (has e w || outside w query inner) (owns words query e inner) (by (has e w) p.0) (full_owns query words e inner n p.1)
   where
     by : (a : Bool) → (a || holds w inner) ≡ true → (a || outside w query inner) ≡ true
     by true k = refl
@@ -41,8 +41,8 @@ full_owns query (w ∷ words) e inner n h =
 owns_full : (query words : List (List ℕ)) (e : Worded) (inner : Trees Worded) → owns words query e inner ≡ true → is_full words e inner ≡ true
 owns_full query [] e inner h = refl
 owns_full query (w ∷ words) e inner h =
-    let p = both_parts (has e w || outside w query inner) (owns words query e inner) h in
-    both_true (has e w || holds w inner) (is_full words e inner) (by (has e w) p.0) (owns_full query words e inner p.1)
+    let p = and_parts (has e w || outside w query inner) (owns words query e inner) h in
+    and_from (has e w || holds w inner) (is_full words e inner) (by (has e w) p.0) (owns_full query words e inner p.1)
   where
     by : (a : Bool) → (a || outside w query inner) ≡ true → (a || holds w inner) ≡ true
     by true k = refl

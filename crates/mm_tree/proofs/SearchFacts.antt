@@ -9,14 +9,11 @@ use Rattle.mm_tree.specs.Trees.{Trees, none, node, Tree, one}
 use Rattle.mm_tree.specs.Numbering.{Labelled, node_of, forest_of}
 use Rattle.mm_tree.specs.Search.{Worded, own, worded, has, holds, is_full, some_full, slca}
 use Rattle.mm_tree.specs.Searching.{either, held, held_by, own_answer, worded_node}
-use Rattle.mm_tree.proofs.FlagFacts.{either_tests, either_twice, either_never, or_false, or_true, or_assoc}
-use Rattle.mm_tree.proofs.NumberFacts.{both_true, both_parts}
+use Rattle.mm_tree.proofs.FlagFacts.{either_tests, either_twice, either_never, or_false, or_assoc}
 use Rattle.std.proofs.lemmas.List.{drop_all}
+use Rattle.std.proofs.lemmas.Bool.{or_parts, and_from, and_parts}
+use Rattle.std.proofs.Math.Bool.{or-true}
 use Rattle.mm_tree.proofs.PlaceFacts.{node_of_out}
-
-neither : (a b : Bool) → (a || b) ≡ false → (a ≡ false) × (b ≡ false)
-neither true b e = absurd cc
-neither false b e = (refl, e)
 
 -- ---- full nodes
 
@@ -30,8 +27,8 @@ full_above : (query : List (List ℕ)) (e d : Worded) (inner below : Trees Worde
     → is_full query d below ≡ true → is_full query e inner ≡ true
 full_above [] e d inner below up h = refl
 full_above (w ∷ query) e d inner below up h =
-    let b = both_parts (has d w || holds w below) (is_full query d below) h in
-    both_true (has e w || holds w inner) (is_full query e inner) (up w b.0) (full_above query e d inner below up b.1)
+    let b = and_parts (has d w || holds w below) (is_full query d below) h in
+    and_from (has e w || holds w inner) (is_full query e inner) (up w b.0) (full_above query e d inner below up b.1)
 
 first_holds : (w : List ℕ) (d : Worded) (below rest : Trees Worded) → (has d w || holds w below) ≡ true → holds w (node d below rest) ≡ true
 first_holds w d below rest = by_test (has d w) (holds w below)
@@ -46,7 +43,7 @@ above_some : (query : List (List ℕ)) (e : Worded) (inner trees : Trees Worded)
     → some_full query trees ≡ true → is_full query e inner ≡ true
 above_some query e inner none up h = absurd cc
 above_some query e inner (node d below rest) up h =
-    by_test (is_full query d below) refl h (above_some query e inner rest (λ w a. up w (ap (λ b. has d w || (holds w below || b)) a ∙ ap (λ b. has d w || b) (or_true (holds w below)) ∙ or_true (has d w))))
+    by_test (is_full query d below) refl h (above_some query e inner rest (λ w a. up w (ap (λ b. has d w || (holds w below || b)) a ∙ ap (λ b. has d w || b) (or-true (holds w below)) ∙ or-true (has d w))))
   where
     by_test : (b : Bool) → is_full query d below ≡ b → (b || some_full query rest) ≡ true → (some_full query rest ≡ true → is_full query e inner ≡ true) → is_full query e inner ≡ true
     by_test true f k later = full_above query e d inner below (λ w a. up w (first_holds w d below rest a)) f
@@ -54,7 +51,7 @@ above_some query e inner (node d below rest) up h =
 
 -- a node with a full child is full
 pub full_of_child : (query : List (List ℕ)) (e : Worded) (inner : Trees Worded) → some_full query inner ≡ true → is_full query e inner ≡ true
-full_of_child query e inner = above_some query e inner inner (λ w a. ap (λ b. has e w || b) a ∙ or_true (has e w))
+full_of_child query e inner = above_some query e inner inner (λ w a. ap (λ b. has e w || b) a ∙ or-true (has e w))
 
 -- ---- answers
 
@@ -65,7 +62,7 @@ part query e inner = cond (is_full query e inner) (cond (some_full query inner) 
 pub no_answer : (query : List (List ℕ)) (trees : Trees Worded) → some_full query trees ≡ false → slca query trees ≡ []
 no_answer query none h = refl
 no_answer query (node e inner rest) h =
-    let n = neither (is_full query e inner) (some_full query rest) h in
+    let n = or_parts (is_full query e inner) (some_full query rest) h in
     ap (λ b. cond b (cond (some_full query inner) (slca query inner) (e.label ∷ [])) [] ++ slca query rest) n.0 ∙ no_answer query rest n.1
 
 -- the answers below a node, and its own

@@ -3,6 +3,7 @@ use Rattle.std.proofs.Common.{◌≡◌, refl, ap, ap₂, sym, ◌∙◌, subst,
 use Rattle.std.specs.Prelude.{ℤ, Option, Some, None}
 use Rattle.std.proofs.lemmas.Slice.Eq.{slice_eq-Decides}
 use Rattle.std.proofs.lemmas.Bool.Decides.{Decides-int_eq}
+use Rattle.std.proofs.Math.Bool.{or-true}
 use Rattle.mm_label.specs.Label.{is_segment, IsBefore, IsAncestorOrSelf}
 use Rattle.mm_tree.specs.Trees.{Trees, none, node}
 use Rattle.mm_tree.specs.Numbering.{Labelled}
@@ -13,7 +14,6 @@ use Rattle.mm_tree.specs.Smallest.{full_nodes, IsSmallest, HasAnswer}
 use Rattle.mm_tree.proofs.LabelledLaws.{front_splits, Parts, parts}
 use Rattle.mm_tree.proofs.OrderLaws.{Under, Each, Rise, rises_more, rise_behind, pairs_from, side_after}
 use Rattle.mm_tree.proofs.WayLaws.{before_irreflexive, one_segment, cancel, labels_of}
-use Rattle.mm_tree.proofs.FlagFacts.{or_true}
 use Rattle.mm_tree.proofs.SearchFacts.{full_of_child, part}
 
 -- ---- members of lists
@@ -103,7 +103,7 @@ full_root query (node e inner rest) x w = elim (full_cases query e inner rest x 
   | inl h ↦ ap (λ b. b || some_full query rest) h.0
   | inr v ↦ elim v [
     | inl i ↦ ap (λ b. b || some_full query rest) (full_of_child query e inner (full_root query inner x i))
-    | inr r ↦ ap (λ b. is_full query e inner || b) (full_root query rest x r) ∙ or_true (is_full query e inner)
+    | inr r ↦ ap (λ b. is_full query e inner || b) (full_root query rest x r) ∙ or-true (is_full query e inner)
   ]
 ]
 
@@ -312,8 +312,8 @@ full_has query none x w = absurd w
 full_has query (node e inner rest) x w = elim (full_cases query (seen e) (worded inner) (worded rest) x w) [
   | inl h ↦ ap (λ b. b || (edits.has x inner || edits.has x rest)) (is_label x e (sym h.1))
   | inr v ↦ elim v [
-    | inl i ↦ ap (λ b. edits.has_label x e || (b || edits.has x rest)) (full_has query inner x i) ∙ or_true (edits.has_label x e)
-    | inr r ↦ ap (λ b. edits.has_label x e || (edits.has x inner || b)) (full_has query rest x r) ∙ ap (λ b. edits.has_label x e || b) (or_true (edits.has x inner)) ∙ or_true (edits.has_label x e)
+    | inl i ↦ ap (λ b. edits.has_label x e || (b || edits.has x rest)) (full_has query inner x i) ∙ or-true (edits.has_label x e)
+    | inr r ↦ ap (λ b. edits.has_label x e || (edits.has x inner || b)) (full_has query rest x r) ∙ ap (λ b. edits.has_label x e || b) (or-true (edits.has x inner)) ∙ or-true (edits.has_label x e)
   ]
 ]
 

@@ -3,14 +3,13 @@ use Rattle.std.proofs.Common.{◌≡◌, refl, ap, sym, subst, ◌∙◌, ℕ, �
 use Rattle.std.specs.Prelude.{Result, Ok, Err, IfOk, codes}
 use Rattle.std.specs.Char.{encode_utf8}
 use Rattle.std.specs.Str.{chars, is_utf8}
-use Rattle.std.proofs.lemmas.Bool.{lt-ltb}
+use Rattle.std.proofs.lemmas.Bool.{lt-ltb, and_from, and_parts}
 use Rattle.mm_tree.specs.declared.plain.Kind.{Kind}
 use Rattle.mm_tree.specs.declared.plain.Kind.TheVariants.{Element, Words}
 use Rattle.mm_tree.specs.declared.plain.Plain.{Plain}
 use Rattle.mm_tree.specs.Trees.{Trees, none, Tree, one, every, has_some, tree_of, trees_of}
 use Rattle.mm_tree.specs.Validity.{is_valid_kind, is_valid_node, is_valid_tree, pieces}
 use Rattle.mm_tree.specs.Examples.{Take}
-use Rattle.mm_tree.proofs.NumberFacts.{both_true, both_parts}
 
 a_valid : is_valid_kind (Element (97 ∷ []) []) ≡ true
 unfolding is_valid_kind is_utf8 chars encode_utf8
@@ -23,7 +22,7 @@ b_valid = refl
 -- an element around trees
 pub around : (t : Tree Kind) (ts : Trees Kind) (n : ℕ) → t ≡ (Element (97 ∷ []) [], ts) → Take ts n → Take (one t) (n + 1)
 around t ts n e h = record {
-  valid = ap (λ (u : Tree Kind). every is_valid_node (one u)) e ∙ both_true (is_valid_kind (Element (97 ∷ []) []) && true) _ (both_true _ _ a_valid refl) (both_true (every is_valid_node ts) _ h.valid refl);
+  valid = ap (λ (u : Tree Kind). every is_valid_node (one u)) e ∙ and_from (is_valid_kind (Element (97 ∷ []) []) && true) _ (and_from _ _ a_valid refl) (and_from (every is_valid_node ts) _ h.valid refl);
   small = omega (arith, ap (λ (u : Tree Kind). pieces (one u)) e, h.small);
 }
 
@@ -43,11 +42,11 @@ pub behind : (cs : List Plain) (t : Plain) (n m : ℕ) → Take (trees_of cs) n 
 behind [] t n m h k = record { valid = k.valid; small = omega (arith, k.small) }
 behind (c ∷ cs) t n m h k =
     let u = tree_of c in
-    let p = both_parts (is_valid_node u.0 (has_some u.1)) (every is_valid_node u.1 && every is_valid_node (trees_of cs)) h.valid in
-    let q = both_parts (every is_valid_node u.1) (every is_valid_node (trees_of cs)) p.1 in
+    let p = and_parts (is_valid_node u.0 (has_some u.1)) (every is_valid_node u.1 && every is_valid_node (trees_of cs)) h.valid in
+    let q = and_parts (every is_valid_node u.1) (every is_valid_node (trees_of cs)) p.1 in
     let r = behind cs t (pieces (trees_of cs)) m (record { valid = q.1; small = omega arith }) k in
     record {
-      valid = both_true (is_valid_node u.0 (has_some u.1)) _ p.0 (both_true (every is_valid_node u.1) _ q.0 r.valid);
+      valid = and_from (is_valid_node u.0 (has_some u.1)) _ p.0 (and_from (every is_valid_node u.1) _ q.0 r.valid);
       small = omega (arith, r.small, h.small);
     }
 
@@ -55,7 +54,7 @@ pub take_more : (ts : Trees Kind) (n m : ℕ) → Take ts n → n ≤ m → Take
 take_more ts n m h le = record { valid = h.valid; small = omega (arith, h.small, le) }
 
 pub few_pieces : (t : Tree Kind) (n : ℕ) → Take (one t) n → n < 2 ^ 31 → is_valid_tree t ≡ true
-few_pieces t n h le = both_true (every is_valid_node (one t)) _ h.valid (lt-ltb (pieces (one t)) (2 ^ 31) (omega (arith, h.small, le)))
+few_pieces t n h le = and_from (every is_valid_node (one t)) _ h.valid (lt-ltb (pieces (one t)) (2 ^ 31) (omega (arith, h.small, le)))
 
 pub behind_items : (xs cs : List Plain) (t : Plain) (n m : ℕ) → xs ≡ cs ++ t ∷ [] → Take (trees_of cs) n → Take (one (tree_of t)) m → Take (trees_of xs) (n + m)
 behind_items xs cs t n m e h k = subst (λ (zs : List Plain). Take (trees_of zs) (n + m)) (sym e) (behind cs t n m h k)

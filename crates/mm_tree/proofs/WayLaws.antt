@@ -1,6 +1,5 @@
 -- In a well-formed forest the way down by labels misses nothing.
-use Rattle.std.proofs.Common.{◌≡◌, refl, ap, sym, ◌∙◌, Bool, true, false, ◌||◌, not, List, [], ◌∷◌, ◌++◌, append_assoc, true≢false}
-use Rattle.std.proofs.Common.{Ordering, Less, Equal, Greater}
+use Rattle.std.proofs.Common.{◌≡◌, refl, ap, sym, ◌∙◌, Bool, true, false, ◌||◌, not, List, [], ◌∷◌, ◌++◌, append_assoc, true≢false, Ordering, Less, Equal, Greater}
 use Rattle.std.specs.Prelude.{ℤ, Option, Some, None, if◌then◌else◌, MatchOption, IsTrue, ◌↔◌}
 use Rattle.std.specs.List.{starts_with}
 use Rattle.std.specs.Ordering.{is_lt, ordering_reverse, int_cmp, int_eq}
@@ -9,6 +8,7 @@ use Rattle.std.specs.Cmp.Lexicographic.{slice_cmp, lists_total}
 use Rattle.std.proofs.lemmas.Slice.Eq.{slice_eq-Decides}
 use Rattle.std.proofs.lemmas.Bool.Decides.{Decides-int_eq}
 use Rattle.std.proofs.lemmas.List.{append-nil}
+use Rattle.std.proofs.lemmas.Bool.{and_parts}
 use Rattle.mm_label.specs.Label.{is_odd, is_empty, is_segment, IsAncestorOrSelf}
 use Rattle.mm_tree.specs.Trees.{Trees, none, node, Tree}
 use Rattle.mm_tree.specs.Numbering.{Labelled}
@@ -17,7 +17,6 @@ use Rattle.mm_tree.specs.declared.forest.place.Place.{Place}
 use Rattle.mm_tree.specs.Edits.{has_label, has, found, Change, edit, Gap, gap_at, gap}
 use Rattle.mm_tree.specs.Ways.{leads_to, found_down, edit_down, gap_down}
 use Rattle.mm_tree.proofs.LabelledLaws.{front_splits, front_is, parts}
-use Rattle.mm_tree.proofs.NumberFacts.{both_parts}
 use Rattle.mm_tree.proofs.OrderLaws.{Under, rises_more}
 
 pub label_is : (x : List ℤ) (e : Labelled) → has_label x e ≡ true → e.label ≡ x
@@ -155,7 +154,7 @@ found_tells None f x ts h = absent x ts h
 found_tells (Some n) f x ts h = present x ts (f n) h
 
 pub labels_of : (forest : Trees Labelled) → is_well_formed forest ≡ true → are_labelled [] None forest ≡ true
-labels_of forest w = (both_parts (are_labelled [] None forest) _ w).0
+labels_of forest w = (and_parts (are_labelled [] None forest) _ w).0
 
 -- a test that says whether a label is a prefix
 pub leads_is : (b : Bool) (label x : List ℤ) → IsTrue b ↔ IsAncestorOrSelf label x → b ≡ starts_with int_eq x label

@@ -1,13 +1,13 @@
 -- Attributes and tags are read as they are spelled.
 use Rattle.std.proofs.Common.{◌≡◌, ℕ, zero, suc, ◌≤◌, Bool, true, false, cond, List, [], ◌∷◌, ◌++◌, length, Some, None, eqb, refl, sym, ap, subst, ◌∙◌, append_assoc, arith, inl, inr}
 use Rattle.std.specs.List.{list_all, flat_map}
-use Rattle.std.proofs.lemmas.Bool.{eqb-true}
+use Rattle.std.proofs.lemmas.Bool.{eqb-true, and_parts, and_from}
 use Rattle.std.proofs.lemmas.List.{length-append}
 use Rattle.mm_tree.specs.Characters.{is_space, is_name_start, is_name_char, is_name, is_short_name}
 use Rattle.mm_xml.specs.Letters.{is_gap}
 use Rattle.mm_xml.specs.Syntax.{Part, is_quote, spelled_part, is_within, Written, is_written, spelled_written}
 use Rattle.mm_xml.specs.Lexing.{◌>>=◌, Found, span, after, parts_at, value_at, written_at, starts_name, attributes_at}
-use Rattle.mm_xml.proofs.Spans.{taken, chosen, some, no, some_is, bind_some, both, both_true, span_whole, span_all, span_again, after_takes, Stops}
+use Rattle.mm_xml.proofs.Spans.{taken, chosen, some, no, some_is, bind_some, span_whole, span_all, span_again, after_takes, Stops}
 use Rattle.mm_xml.proofs.Parts.{parts_take, parts_again, parts_len}
 
 -- ---- values
@@ -54,7 +54,7 @@ written_takes gap cs x g e =
     let v = value_takes (span is_space a.0).1 b.0 b.1 in
     let spaces = (span is_space a.0).0 in
     subst (λ (y : Written × List ℕ). WrittenTakes gap cs y) (some_is (make a.0 b.0) x b.2) (record {
-      is = both_true _ _ g (both_true _ _ t.0 (both_true _ _ (span_all is_space more) (both_true _ _ (span_all is_space a.0) (both_true _ _ v.quote v.each))));
+      is = and_from _ _ g (and_from _ _ t.0 (and_from _ _ (span_all is_space more) (and_from _ _ (span_all is_space a.0) (and_from _ _ v.quote v.each))));
       parts =
           ap (λ (y : List ℕ). gap ++ y) (sym (span_whole is_name_char cs)
           ∙ ap (λ (y : List ℕ). name ++ y) (sym (span_whole is_space more)
@@ -66,7 +66,7 @@ written_takes gap cs x g e =
 -- what may not go on a name, and what may not go on white space
 pub not_space_stops : (p : ℕ → Bool) (xs : List ℕ) (c : ℕ) (cs : List ℕ) → ((d : ℕ) → is_space d ≡ true → p d ≡ false) → list_all is_space xs ≡ true → p c ≡ false → Stops p (xs ++ (c ∷ cs))
 not_space_stops p [] c cs no_space h f = f
-not_space_stops p (x ∷ xs) c cs no_space h f = no_space x (both (is_space x) (list_all is_space xs) h).0
+not_space_stops p (x ∷ xs) c cs no_space h f = no_space x (and_parts (is_space x) (list_all is_space xs) h).0
 
 pub space_no_name : (d : ℕ) → is_space d ≡ true → is_name_char d ≡ false
 space_no_name d h =
@@ -93,11 +93,11 @@ start_is c h = rw h refl
 pub name_chars : (name : List ℕ) → is_name name ≡ true → list_all is_name_char name ≡ true
 name_chars [] h = absurd cc
 name_chars (c ∷ cs) h =
-    let w = both (is_name_start c) (list_all is_name_char cs) h in
-    both_true (is_name_char c) (list_all is_name_char cs) (start_is c w.0) w.1
+    let w = and_parts (is_name_start c) (list_all is_name_char cs) h in
+    and_from (is_name_char c) (list_all is_name_char cs) (start_is c w.0) w.1
 
 pub short_chars : (name : List ℕ) → is_short_name name ≡ true → list_all is_name_char name ≡ true
-short_chars name h = name_chars name (both (is_name name) _ h).0
+short_chars name h = name_chars name (and_parts (is_name name) _ h).0
 
 pub quote_no_space : (q : ℕ) → is_quote q ≡ true → is_space q ≡ false
 quote_no_space q h =
@@ -135,11 +135,11 @@ pub record IsWritten (a : Written) : Type 0 where
 
 pub written_facts : (a : Written) → is_written a ≡ true → IsWritten a
 written_facts a h =
-    let g = both (is_gap a.gap) _ h in
-    let n = both (is_short_name a.name) _ g.1 in
-    let b = both (list_all is_space a.before) _ n.1 in
-    let s = both (list_all is_space a.after) _ b.1 in
-    let q = both (is_quote a.quote) (list_all (is_within a.quote) a.parts) s.1 in
+    let g = and_parts (is_gap a.gap) _ h in
+    let n = and_parts (is_short_name a.name) _ g.1 in
+    let b = and_parts (list_all is_space a.before) _ n.1 in
+    let s = and_parts (list_all is_space a.after) _ b.1 in
+    let q = and_parts (is_quote a.quote) (list_all (is_within a.quote) a.parts) s.1 in
     record { gap = g.0; name = n.0; before = b.0; after = s.0; quote = q.0; parts = q.1 }
 
 pub written_again : (a : Written) (rest : List ℕ) → is_written a ≡ true → written_at a.gap (from_name a rest) ≡ Some (a, rest)
@@ -176,7 +176,7 @@ attributes_take (suc n) cs x e =
           let f = written_takes gap more a.0 t.0 a.1 in
           let m = attributes_take n a.0.1 b.0 b.1 in
           subst (λ (y : List Written × List ℕ). AttributesTake cs y) (some_is _ x b.2) (record {
-            each = both_true _ _ f.is m.each;
+            each = and_from _ _ f.is m.each;
             parts = sym (span_whole is_space cs) ∙ f.parts ∙ ap (λ (y : List ℕ). spelled_written a.0.0 ++ y) m.parts ∙ sym (append_assoc (spelled_written a.0.0) (flat_map spelled_written b.0.0) b.0.1);
           })
     ]
@@ -188,11 +188,11 @@ pub record NameFirst (name : List ℕ) : Type 0 where
 pub name_first : (name : List ℕ) → is_short_name name ≡ true → NameFirst name
 name_first [] h = absurd cc
 name_first (c ∷ cs) h =
-    let n = both (is_name (c ∷ cs)) _ h in
-    let w = both (is_name_start c) (list_all is_name_char cs) n.0 in
+    let n = and_parts (is_name (c ∷ cs)) _ h in
+    let w = and_parts (is_name_start c) (list_all is_name_char cs) n.0 in
     record { first = λ rest. w.0; no_space = λ rest. name_char_no_space c (start_is c w.0) }
 
-gap_spaces : (g : List ℕ) → is_gap g ≡ true → list_all is_space g ≡ true
+pub gap_spaces : (g : List ℕ) → is_gap g ≡ true → list_all is_space g ≡ true
 gap_spaces [] h = absurd cc
 gap_spaces (c ∷ cs) h = h
 
@@ -205,7 +205,7 @@ attributes_again zero [] rest each stop le = refl
 attributes_again (suc n) [] rest each stop le = ap (λ b. cond b (cond (is_gap (span is_space rest).0) (written_at (span is_space rest).0 (span is_space rest).1 >>= λ v. one_more n v) no) (some ([], rest))) stop
 attributes_again zero (a ∷ ws) rest each stop le = absurd (omega (arith, le))
 attributes_again (suc n) (a ∷ ws) rest each stop le =
-    let w = both (is_written a) (list_all is_written ws) each in
+    let w = and_parts (is_written a) (list_all is_written ws) each in
     let f = written_facts a w.0 in
     let nf = name_first a.name f.name in
     let tail = flat_map spelled_written ws ++ rest in
@@ -220,7 +220,7 @@ attributes_again (suc n) (a ∷ ws) rest each stop le =
 pub attributes_len : (ws : List Written) → list_all is_written ws ≡ true → length ws ≤ length (flat_map spelled_written ws)
 attributes_len [] each = omega arith
 attributes_len (a ∷ ws) each =
-    let w = both (is_written a) (list_all is_written ws) each in
+    let w = and_parts (is_written a) (list_all is_written ws) each in
     omega (arith, attributes_len ws w.1, length-append (spelled_written a) (flat_map spelled_written ws), gap_len a.gap (written_facts a w.0).gap, length-append a.gap (a.name ++ (a.before ++ (61 ∷ (a.after ++ (a.quote ∷ (flat_map spelled_part a.parts ++ a.quote ∷ [])))))))
   where
     gap_len : (g : List ℕ) → is_gap g ≡ true → 1 ≤ length g

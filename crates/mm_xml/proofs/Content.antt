@@ -1,12 +1,12 @@
 -- A token of content that is read is the token that was spelled, and what was spelled is read again.
 use Rattle.std.proofs.Common.{◌≡◌, ℕ, true, false, cond, List, [], ◌∷◌, ◌++◌, drop, Some, None, eqb, refl, sym, ap, subst, ◌∙◌, append_assoc, inl, inr}
 use Rattle.std.specs.List.{list_all, flat_map}
-use Rattle.std.proofs.lemmas.Bool.{eqb-true}
+use Rattle.std.proofs.lemmas.Bool.{eqb-true, and_parts, and_from}
 use Rattle.mm_tree.specs.Characters.{is_space, is_name_start, is_name_char, is_name, is_short_name}
 use Rattle.mm_xml.specs.Letters.{starts}
 use Rattle.mm_xml.specs.Syntax.{Part, Literal, Reference, is_literal, spelled_written, Token, Data, Section, Comment, Instruction, Start, Close, Doctype, ending, is_token, spelled}
 use Rattle.mm_xml.specs.Lexing.{◌>>=◌, Found, span, after, part_at, start_at, close_at, comment_at, section_at, instruction_at, two_dashes, section_start, doctype_start, doctype_at, marked_at, markup_at, token_at}
-use Rattle.mm_xml.proofs.Spans.{taken, chosen, some, no, some_is, bind_some, both, both_true, span_whole, span_all, span_again, after_takes, starts_takes}
+use Rattle.mm_xml.proofs.Spans.{taken, chosen, some, no, some_is, bind_some, span_whole, span_all, span_again, after_takes, starts_takes}
 use Rattle.mm_xml.proofs.Parts.{part_takes, part_again}
 use Rattle.mm_xml.proofs.Attributes.{short_chars, not_space_stops, space_no_name}
 use Rattle.mm_xml.proofs.DoctypeFacts.{doctype_takes, doctype_again}
@@ -21,7 +21,7 @@ close_takes cs x e =
     let t = taken (is_short_name name) (after 62 (span is_space more).1 >>= λ r. Some (Close name gap, r)) x e in
     let b = bind_some (after 62 (span is_space more).1) (λ r. Some (Close name gap, r)) x t.1 in
     subst (λ (y : Token × List ℕ). Takes (60 ∷ 47 ∷ cs) y) (some_is _ x b.2) (record {
-      is = both_true _ _ t.0 (span_all is_space more);
+      is = and_from _ _ t.0 (span_all is_space more);
       parts = ap (λ (y : List ℕ). 60 ∷ 47 ∷ y) (sym (span_whole is_name_char cs)
           ∙ ap (λ (y : List ℕ). name ++ y) (sym (span_whole is_space more) ∙ ap (λ (y : List ℕ). gap ++ y) (after_takes 62 (span is_space more).1 b.0 b.1))
           ∙ group name gap (62 ∷ []) b.0);
@@ -36,7 +36,7 @@ close_rest y = cond (is_short_name y.0) (after 62 (span is_space y.1).1 >>= λ r
 close_again : (name gap rest : List ℕ) → is_token (Close name gap) ≡ true → close_at ((name ++ (gap ++ 62 ∷ [])) ++ rest) ≡ Some (Close name gap, rest)
 unfolding close_at
 close_again name gap rest h =
-    let n = both (is_short_name name) (list_all is_space gap) h in
+    let n = and_parts (is_short_name name) (list_all is_space gap) h in
     ap (λ (y : List ℕ). close_at y) (group name gap (62 ∷ []) rest)
     ∙ ap (λ (y : List ℕ × List ℕ). close_rest y) (span_again is_name_char name (gap ++ (62 ∷ rest)) (short_chars name n.0) (not_space_stops is_name_char gap 62 rest space_no_name n.1 refl))
     ∙ ap (λ b. cond b (after 62 (span is_space (gap ++ (62 ∷ rest))).1 >>= λ r. some (Close name (span is_space (gap ++ (62 ∷ rest))).0, r)) no) n.0
@@ -96,8 +96,8 @@ markup_start : (name tail : List ℕ) → is_short_name name ≡ true → markup
 unfolding markup_at
 markup_start [] tail h = absurd cc
 markup_start (c ∷ cs) tail h =
-    let n = both (is_name (c ∷ cs)) _ h in
-    let w = both (is_name_start c) (list_all is_name_char cs) n.0 in
+    let n = and_parts (is_name (c ∷ cs)) _ h in
+    let w = and_parts (is_name_start c) (list_all is_name_char cs) n.0 in
     rw (not_start c 47 w.0 refl, not_start c 33 w.0 refl, not_start c 63 w.0 refl) refl
 
 not_open : (c : ℕ) → is_literal c ≡ true → eqb c 60 ≡ false
@@ -117,7 +117,7 @@ token_again (Comment body) rest h = comment_again body rest h
 token_again (Instruction name body) rest h = instruction_again name body rest h
 token_again (Start e name ws gap) rest h =
     ap (λ (y : List ℕ). markup_at y) (append_assoc name (flat_map spelled_written ws ++ (gap ++ ending e)) rest)
-    ∙ markup_start name ((flat_map spelled_written ws ++ (gap ++ ending e)) ++ rest) (both (is_short_name name) _ h).0
+    ∙ markup_start name ((flat_map spelled_written ws ++ (gap ++ ending e)) ++ rest) (and_parts (is_short_name name) _ h).0
     ∙ ap (λ (y : List ℕ). start_at y) (sym (append_assoc name (flat_map spelled_written ws ++ (gap ++ ending e)) rest))
     ∙ start_again e name ws gap rest h
 token_again (Close name gap) rest h = close_again name gap rest h

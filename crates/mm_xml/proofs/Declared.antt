@@ -1,17 +1,17 @@
 -- An XML declaration is read as it is spelled.
 use Rattle.std.proofs.Common.{◌≡◌, ℕ, Bool, true, false, cond, List, [], ◌∷◌, ◌++◌, Option, Some, None, eqb, refl, sym, ap, subst, ◌∙◌, append_assoc, arith, inl, inr}
 use Rattle.std.specs.List.{list_all, flat_map}
-use Rattle.std.proofs.lemmas.Bool.{eqb-true}
+use Rattle.std.proofs.lemmas.Bool.{eqb-true, and_parts, and_from}
 use Rattle.mm_tree.specs.Characters.{is_char, is_space, is_name_char}
 use Rattle.mm_xml.specs.Letters.{is_gap, starts}
 use Rattle.mm_xml.specs.Syntax.{Quoted, is_quote, is_quoted, spelled_quoted, Setting, spelled_setting, is_setting, is_version, is_encoding, is_standalone, declaration_start, version_word, encoding_word, standalone_word, declaration_end, Declaration, spelled_if, is_setting_if, spelled_declaration, is_declaration, Token, is_token, spelled}
 use Rattle.mm_xml.specs.Lexing.{◌>>=◌, Found, span, after, quoted_at, equals_at, instruction_at, markup_at, token_at}
 use Rattle.mm_xml.specs.Prefix.{stripped}
 use Rattle.mm_xml.specs.Declaring.{quoted_text_at, setting_at, passed, after_version, after_if, after_encoding, after_standalone, after_declaration}
-use Rattle.mm_xml.proofs.Spans.{taken, chosen, some, no, some_is, bind_some, both, both_true, Stops, span_whole, span_all, span_again, after_takes, starts_itself}
-use Rattle.mm_xml.proofs.Attributes.{quote_no_space, space_no_name}
+use Rattle.mm_xml.proofs.Spans.{taken, chosen, some, no, some_is, bind_some, Stops, span_whole, span_all, span_again, after_takes, starts_itself}
+use Rattle.mm_xml.proofs.Attributes.{quote_no_space, space_no_name, gap_spaces}
 use Rattle.mm_xml.proofs.Tags.{instruction_rest}
-use Rattle.mm_xml.proofs.DoctypeFacts.{quoted_takes, quoted_again, gap_spaces}
+use Rattle.mm_xml.proofs.DoctypeFacts.{quoted_takes, quoted_again}
 use Rattle.mm_xml.proofs.Content.{token_again}
 
 -- ---- words
@@ -54,7 +54,7 @@ setting_takes test word cs rest e =
     let behind = (span is_space d.0).0 in
     record {
       setting = record { gap = g; before = before; after = behind; value = q.0.0 };
-      is = both_true _ _ a.0 (both_true _ _ (span_all is_space b.0) (both_true _ _ (span_all is_space d.0) (both_true _ _ u.is (ap (λ (x : List ℕ × List ℕ). test x.0) pair ∙ t.0))));
+      is = and_from _ _ a.0 (and_from _ _ (span_all is_space b.0) (and_from _ _ (span_all is_space d.0) (and_from _ _ u.is (ap (λ (x : List ℕ × List ℕ). test x.0) pair ∙ t.0))));
       parts =
           sym (span_whole is_space cs)
           ∙ ap (λ (y : List ℕ). g ++ y) (strip_takes word more b.0 b.1
@@ -80,10 +80,10 @@ record SettingFacts (test : List ℕ → Bool) (s : Setting) : Type 0 where
 
 setting_facts : (test : List ℕ → Bool) (s : Setting) → is_setting test s ≡ true → SettingFacts test s
 setting_facts test s h =
-    let g = both (is_gap s.gap) _ h in
-    let b = both (list_all is_space s.before) _ g.1 in
-    let a = both (list_all is_space s.after) _ b.1 in
-    let v = both (is_quoted is_char s.value) (test s.value.text) a.1 in
+    let g = and_parts (is_gap s.gap) _ h in
+    let b = and_parts (list_all is_space s.before) _ g.1 in
+    let a = and_parts (list_all is_space s.after) _ b.1 in
+    let v = and_parts (is_quoted is_char s.value) (test s.value.text) a.1 in
     record { gap = g.0; before = b.0; after = a.0; value = v.0; passes = v.1 }
 
 -- a setting and what comes after it, from its word on
@@ -99,7 +99,7 @@ setting_group word s rest = group s.gap word s.before s.after (spelled_quoted s.
 setting_again : (test : List ℕ → Bool) (word : List ℕ) (s : Setting) (rest : List ℕ) → ((r : List ℕ) → Stops is_space (word ++ r)) → is_setting test s ≡ true → passed test (setting_at word (spelled_setting word s ++ rest)) ≡ Some rest
 setting_again test word s rest stop h =
     let f = setting_facts test s h in
-    let quote_is = (both (is_quote s.value.quote) _ f.value).0 in
+    let quote_is = (and_parts (is_quote s.value.quote) _ f.value).0 in
     let last = spelled_quoted s.value ++ rest in
     let tail = s.before ++ (61 ∷ (s.after ++ last)) in
     ap (λ (x : List ℕ). passed test (setting_at word x)) (setting_group word s rest)
@@ -155,7 +155,7 @@ declaration_takes cs rest e =
     let s = if_takes is_standalone standalone_word c.0 d.0 d.1 in
     let gap = (span is_space d.0).0 in (
       record { version = v.setting; encoding = n.setting; standalone = s.setting; gap = gap },
-      both_true _ _ v.is (both_true _ _ n.is (both_true _ _ s.is (span_all is_space d.0))),
+      and_from _ _ v.is (and_from _ _ n.is (and_from _ _ s.is (span_all is_space d.0))),
       strip_takes declaration_start cs a.0 a.1
           ∙ ap (λ (y : List ℕ). declaration_start ++ y) (v.parts
           ∙ ap (λ (y : List ℕ). spelled_setting version_word v.setting ++ y) (n.parts
@@ -170,9 +170,9 @@ declaration_takes cs rest e =
 pub declaration_again : (d : Declaration) (rest : List ℕ) → is_declaration d ≡ true → after_declaration (spelled_declaration d ++ rest) ≡ Some rest
 unfolding after_declaration
 declaration_again d rest h =
-    let v = both (is_setting is_version d.version) _ h in
-    let n = both (is_setting_if is_encoding d.encoding) _ v.1 in
-    let s = both (is_setting_if is_standalone d.standalone) (list_all is_space d.gap) n.1 in
+    let v = and_parts (is_setting is_version d.version) _ h in
+    let n = and_parts (is_setting_if is_encoding d.encoding) _ v.1 in
+    let s = and_parts (is_setting_if is_standalone d.standalone) (list_all is_space d.gap) n.1 in
     let last = d.gap ++ (declaration_end ++ rest) in
     let behind = spelled_if standalone_word d.standalone ++ last in
     ap (λ (x : List ℕ). after_declaration x) (group (spelled_setting version_word d.version) (spelled_if encoding_word d.encoding) (spelled_if standalone_word d.standalone) d.gap rest)
@@ -203,7 +203,7 @@ no_token xs stop = no_instruction xs stop
 
 gap_stops : (g x y z : List ℕ) → is_gap g ≡ true → Stops is_name_char (((g ++ x) ++ y) ++ z)
 gap_stops [] x y z h = absurd cc
-gap_stops (c ∷ cs) x y z h = space_no_name c (both (is_space c) (list_all is_space cs) h).0
+gap_stops (c ∷ cs) x y z h = space_no_name c (and_parts (is_space c) (list_all is_space cs) h).0
 
 pub undeclared : (ts : List Token) → list_all is_token ts ≡ true → after_declaration (flat_map spelled ts) ≡ None
 unfolding after_declaration
@@ -212,7 +212,7 @@ undeclared (t ∷ ts) each =
     let cs = spelled t ++ flat_map spelled ts in
     elim (after_declaration cs) as (λ o. after_declaration cs ≡ o → o ≡ None) [
       | None ↦ λ e. refl
-      | Some rest ↦ λ e. absurd (never t (flat_map spelled ts) rest (both (is_token t) (list_all is_token ts) each).0 e)
+      | Some rest ↦ λ e. absurd (never t (flat_map spelled ts) rest (and_parts (is_token t) (list_all is_token ts) each).0 e)
     ] refl
   where
     none_is : (x : Token × List ℕ) (o : Found Token) → o ≡ Some x → o ≡ None → ⊥
@@ -221,5 +221,5 @@ undeclared (t ∷ ts) each =
     never : (t : Token) (more rest : List ℕ) → is_token t ≡ true → after_declaration (spelled t ++ more) ≡ Some rest → ⊥
     never t more rest is e =
         let d = declaration_takes (spelled t ++ more) rest e in
-        let v = setting_facts is_version d.0.version (both (is_setting is_version d.0.version) _ d.1).0 in
+        let v = setting_facts is_version d.0.version (and_parts (is_setting is_version d.0.version) _ d.1).0 in
         none_is (t, more) (token_at (spelled t ++ more)) (token_again t more is) (ap (λ (x : List ℕ). token_at x) d.2 ∙ no_token _ (gap_stops d.0.version.gap _ _ rest v.gap))

@@ -6,11 +6,12 @@ use Rattle.mm_xml.specs.Letters.{starts, is_gap}
 use Rattle.mm_xml.specs.Syntax.{Token, Doctype, Quoted, is_quote, is_quoted, spelled_quoted, is_public, External, Nowhere, System, Public, is_external, spelled_external, is_token}
 use Rattle.mm_xml.specs.Lexing.{◌>>=◌, Found, span, after, quoted_char, quoted_at, spaced_quoted_at, system_word, public_word, system_at, public_at, external_at, doctype_end_at, doctype_at, two_dashes, section_start, doctype_start, comment_at, section_at, marked_at}
 use Rattle.std.specs.Borrow.{Bor}
+use Rattle.std.proofs.lemmas.Bool.{and_parts, and_from}
 use Rattle.mm_xml.specs.Prefix.{stripped}
 use Rattle.mm_xml.specs.Telling.{Sign, Doctyped, tell, rest_of, both_rest}
 use Rattle.mm_xml.specs.Lexemes.{Rests}
-use Rattle.mm_xml.proofs.Spans.{taken, chosen, some, no, some_is, bind_some, both, both_true, Stops, span_whole, span_all, span_again, after_takes, starts_takes}
-use Rattle.mm_xml.proofs.Attributes.{quote_no_space, space_no_name, not_space_stops, name_chars, name_char_no_space, start_is}
+use Rattle.mm_xml.proofs.Spans.{taken, chosen, some, no, some_is, bind_some, Stops, span_whole, span_all, span_again, after_takes, starts_takes}
+use Rattle.mm_xml.proofs.Attributes.{quote_no_space, space_no_name, not_space_stops, name_chars, name_char_no_space, start_is, gap_spaces}
 use Rattle.mm_xml.proofs.Tags.{Takes}
 
 -- ---- quoted text
@@ -27,7 +28,7 @@ quoted_takes p (q ∷ cs) x e =
     let t = taken (is_quote q) (after q more >>= λ r. Some (record { quote = q; text = text }, r)) x e in
     let b = bind_some (after q more) (λ r. Some (record { quote = q; text = text }, r)) x t.1 in
     subst (λ (y : Quoted × List ℕ). QuotedTakes p (q ∷ cs) y) (some_is (record { quote = q; text = text }, b.0) x b.2) (record {
-      is = both_true _ _ t.0 (span_all (quoted_char p q) cs);
+      is = and_from _ _ t.0 (span_all (quoted_char p q) cs);
       parts = ap (λ (y : List ℕ). q ∷ y) (sym (span_whole (quoted_char p q) cs) ∙ ap (λ (y : List ℕ). text ++ y) (after_takes q more b.0 b.1) ∙ sym (append_assoc text (q ∷ []) b.0));
     })
 
@@ -39,7 +40,7 @@ stops p q = elim (p q) as (λ b. (b && not (eqb q q)) ≡ false) [ true ↦ ap n
 
 pub quoted_again : (p : ℕ → Bool) (q : Quoted) (rest : List ℕ) → is_quoted p q ≡ true → quoted_at p (spelled_quoted q ++ rest) ≡ Some (q, rest)
 quoted_again p q rest h =
-    let w = both (is_quote q.quote) (list_all (quoted_char p q.quote) q.text) h in
+    let w = and_parts (is_quote q.quote) (list_all (quoted_char p q.quote) q.text) h in
     ap (λ (y : List ℕ). quoted_at p (q.quote ∷ y)) (append_assoc q.text (q.quote ∷ []) rest)
     ∙ ap (λ b. cond b (after q.quote (span (quoted_char p q.quote) (q.text ++ (q.quote ∷ rest))).1 >>= λ r. some (record { quote = q.quote; text = (span (quoted_char p q.quote) (q.text ++ (q.quote ∷ rest))).0 }, r)) no) w.0
     ∙ ap (λ (y : List ℕ × List ℕ). after q.quote y.1 >>= λ r. some (record { quote = q.quote; text = y.0 }, r)) (span_again (quoted_char p q.quote) q.text (q.quote ∷ rest) w.1 (stops p q.quote))
@@ -65,16 +66,12 @@ spaced_takes p cs x e =
       parts = sym (span_whole is_space cs) ∙ ap (λ (y : List ℕ). g ++ y) q.parts;
     })
 
-pub gap_spaces : (g : List ℕ) → is_gap g ≡ true → list_all is_space g ≡ true
-gap_spaces [] h = absurd cc
-gap_spaces (c ∷ cs) h = h
-
 abbrev spaced_rest : (ℕ → Bool) → List ℕ × List ℕ → Found (List ℕ × Quoted)
 spaced_rest p y = cond (is_gap y.0) (quoted_at p y.1 >>= λ q. Some ((y.0, q.0), q.1)) None
 
 spaced_again : (p : ℕ → Bool) (g : List ℕ) (q : Quoted) (rest : List ℕ) → is_gap g ≡ true → is_quoted p q ≡ true → spaced_quoted_at p (g ++ (spelled_quoted q ++ rest)) ≡ Some ((g, q), rest)
 spaced_again p g q rest hg hq =
-    let quote_is = (both (is_quote q.quote) (list_all (quoted_char p q.quote) q.text) hq).0 in
+    let quote_is = (and_parts (is_quote q.quote) (list_all (quoted_char p q.quote) q.text) hq).0 in
     ap (λ (y : List ℕ × List ℕ). spaced_rest p y) (span_again is_space g (spelled_quoted q ++ rest) (gap_spaces g hg) (quote_no_space q.quote quote_is))
     ∙ ap (λ (b : Bool). cond b (quoted_at p (spelled_quoted q ++ rest) >>= λ x. some ((g, x.0), x.1)) no) hg
     ∙ ap (λ (o : Found Quoted). o >>= λ x. some ((g, x.0), x.1)) (quoted_again p q rest hq)
@@ -90,7 +87,7 @@ system_takes g cs all x hg parts e =
     let b = bind_some (spaced_quoted_at is_char cs) (λ y. Some (System g y.0.0 y.0.1, y.1)) x e in
     let t = spaced_takes is_char cs b.0 b.1 in
     subst (λ (y : External × List ℕ). ExternalTakes all y) (some_is (System g b.0.0.0 b.0.0.1, b.0.1) x b.2) (record {
-      is = both_true _ _ hg (both_true _ _ t.gap t.is);
+      is = and_from _ _ hg (and_from _ _ t.gap t.is);
       parts = parts ∙ ap (λ (y : List ℕ). g ++ (system_word ++ y)) t.parts ∙ group g system_word b.0.0.0 (spelled_quoted b.0.0.1) b.0.1;
     })
   where
@@ -104,7 +101,7 @@ public_takes g cs all x hg parts e =
     let t = spaced_takes is_public cs b.0 b.1 in
     let u = spaced_takes is_char b.0.1 d.0 d.1 in
     subst (λ (y : External × List ℕ). ExternalTakes all y) (some_is (Public g b.0.0.0 b.0.0.1 d.0.0.0 d.0.0.1, d.0.1) x d.2) (record {
-      is = both_true _ _ hg (both_true _ _ t.gap (both_true _ _ t.is (both_true _ _ u.gap u.is)));
+      is = and_from _ _ hg (and_from _ _ t.gap (and_from _ _ t.is (and_from _ _ u.gap u.is)));
       parts = parts ∙ ap (λ (y : List ℕ). g ++ (public_word ++ y)) (t.parts ∙ ap (λ (y : List ℕ). b.0.0.0 ++ (spelled_quoted b.0.0.1 ++ y)) u.parts) ∙ group g public_word b.0.0.0 (spelled_quoted b.0.0.1) d.0.0.0 (spelled_quoted d.0.0.1) d.0.1;
     })
   where
@@ -133,8 +130,8 @@ external_again : (e : External) (s rest : List ℕ) → is_external e ≡ true �
 unfolding external_at
 external_again Nowhere s rest h hs = ap (λ (y : List ℕ × List ℕ). external_rest (s ++ 62 ∷ rest) y) (span_again is_space s (62 ∷ rest) hs refl)
 external_again (System g t q) s rest h hs =
-    let w = both (is_gap g) _ h in
-    let v = both (is_gap t) (is_quoted is_char q) w.1 in
+    let w = and_parts (is_gap g) _ h in
+    let v = and_parts (is_gap t) (is_quoted is_char q) w.1 in
     let tail = t ++ (spelled_quoted q ++ (s ++ 62 ∷ rest)) in
     ap (λ (y : List ℕ). external_at y) (group g system_word t (spelled_quoted q) (s ++ 62 ∷ rest))
     ∙ ap (λ (y : List ℕ × List ℕ). external_rest (g ++ (system_word ++ tail)) y) (span_again is_space g (system_word ++ tail) (gap_spaces g w.0) refl)
@@ -144,10 +141,10 @@ external_again (System g t q) s rest h hs =
     group : (a b c d e : List ℕ) → (a ++ (b ++ (c ++ d))) ++ e ≡ a ++ (b ++ (c ++ (d ++ e)))
     group a b c d e = simp append_assoc
 external_again (Public g t q u r) s rest h hs =
-    let w = both (is_gap g) _ h in
-    let v = both (is_gap t) _ w.1 in
-    let a = both (is_quoted is_public q) _ v.1 in
-    let b = both (is_gap u) (is_quoted is_char r) a.1 in
+    let w = and_parts (is_gap g) _ h in
+    let v = and_parts (is_gap t) _ w.1 in
+    let a = and_parts (is_quoted is_public q) _ v.1 in
+    let b = and_parts (is_gap u) (is_quoted is_char r) a.1 in
     let tail = u ++ (spelled_quoted r ++ (s ++ 62 ∷ rest)) in
     let all = t ++ (spelled_quoted q ++ tail) in
     ap (λ (y : List ℕ). external_at y) (group g public_word t (spelled_quoted q) u (spelled_quoted r) (s ++ 62 ∷ rest))
@@ -178,7 +175,7 @@ doctype_takes cs x e =
     let d = bind_some (after 62 (span is_space b.0.1).1) (λ r. Some (Doctype g name b.0.0 s, r)) x b.2 in
     let f = external_takes rest b.0 b.1 in
     subst (λ (y : Token × List ℕ). Takes (60 ∷ 33 ∷ (word ++ cs)) y) (some_is (Doctype g name b.0.0 s, d.0) x d.2) (record {
-      is = both_true _ _ t.0 (both_true _ _ u.0 (both_true _ _ f.is (span_all is_space b.0.1)));
+      is = and_from _ _ t.0 (and_from _ _ u.0 (and_from _ _ f.is (span_all is_space b.0.1)));
       parts = ap (λ (y : List ℕ). 60 ∷ 33 ∷ (word ++ y)) (sym (span_whole is_space cs) ∙ ap (λ (y : List ℕ). g ++ y) (sym (span_whole is_name_char more) ∙ ap (λ (y : List ℕ). name ++ y) (f.parts ∙ ap (λ (y : List ℕ). spelled_external b.0.0 ++ y) (sym (span_whole is_space b.0.1) ∙ ap (λ (y : List ℕ). s ++ y) (after_takes 62 (span is_space b.0.1).1 d.0 d.1)))) ∙ group g name (spelled_external b.0.0) s (62 ∷ []) d.0);
     })
   where
@@ -193,23 +190,23 @@ gap_rest y = cond (is_gap y.0) (name_rest y.0 (span is_name_char y.1)) None
 
 name_no_space : (name rest : List ℕ) → is_name name ≡ true → Stops is_space (name ++ rest)
 name_no_space [] rest h = absurd cc
-name_no_space (c ∷ cs) rest h = name_char_no_space c (start_is c (both (is_name_start c) (list_all is_name_char cs) h).0)
+name_no_space (c ∷ cs) rest h = name_char_no_space c (start_is c (and_parts (is_name_start c) (list_all is_name_char cs) h).0)
 
 gap_stops : (g rest : List ℕ) → is_gap g ≡ true → Stops is_name_char (g ++ rest)
 gap_stops [] rest h = absurd cc
-gap_stops (c ∷ cs) rest h = space_no_name c (both (is_space c) (list_all is_space cs) h).0
+gap_stops (c ∷ cs) rest h = space_no_name c (and_parts (is_space c) (list_all is_space cs) h).0
 
 external_stops : (e : External) (s rest : List ℕ) → is_external e ≡ true → list_all is_space s ≡ true → Stops is_name_char (spelled_external e ++ (s ++ 62 ∷ rest))
 external_stops Nowhere s rest h hs = not_space_stops is_name_char s 62 rest space_no_name hs refl
-external_stops (System g t q) s rest h hs = subst (λ (y : List ℕ). Stops is_name_char y) (sym (append_assoc g _ (s ++ 62 ∷ rest))) (gap_stops g _ (both (is_gap g) _ h).0)
-external_stops (Public g t q u r) s rest h hs = subst (λ (y : List ℕ). Stops is_name_char y) (sym (append_assoc g _ (s ++ 62 ∷ rest))) (gap_stops g _ (both (is_gap g) _ h).0)
+external_stops (System g t q) s rest h hs = subst (λ (y : List ℕ). Stops is_name_char y) (sym (append_assoc g _ (s ++ 62 ∷ rest))) (gap_stops g _ (and_parts (is_gap g) _ h).0)
+external_stops (Public g t q u r) s rest h hs = subst (λ (y : List ℕ). Stops is_name_char y) (sym (append_assoc g _ (s ++ 62 ∷ rest))) (gap_stops g _ (and_parts (is_gap g) _ h).0)
 
 pub doctype_again : (g name : List ℕ) (e : External) (s rest : List ℕ) → is_token (Doctype g name e s) ≡ true → doctype_at ((g ++ (name ++ (spelled_external e ++ (s ++ 62 ∷ [])))) ++ rest) ≡ Some (Doctype g name e s, rest)
 unfolding doctype_at
 doctype_again g name e s rest h =
-    let w = both (is_gap g) _ h in
-    let n = both (is_name name) _ w.1 in
-    let x = both (is_external e) (list_all is_space s) n.1 in
+    let w = and_parts (is_gap g) _ h in
+    let n = and_parts (is_name name) _ w.1 in
+    let x = and_parts (is_external e) (list_all is_space s) n.1 in
     let end = s ++ 62 ∷ rest in
     let tail = spelled_external e ++ end in
     ap (λ (y : List ℕ). doctype_at y) (group g name (spelled_external e) s (62 ∷ []) rest)
@@ -231,7 +228,7 @@ strip_is (p ∷ ps) [] r e = absurd cc
 strip_is (p ∷ ps) (c ∷ cs) r e =
     let t = taken (eqb p c) (stripped ps cs) r e in
     let more = strip_is ps cs r t.1 in
-    (both_true (eqb p c) (starts ps cs) t.0 more.0, more.1)
+    (and_from (eqb p c) (starts ps cs) t.0 more.0, more.1)
 
 strip_none : (word cs : List ℕ) → stripped word cs ≡ None → starts word cs ≡ false
 strip_none [] cs e = absurd cc

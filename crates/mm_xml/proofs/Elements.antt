@@ -1,9 +1,9 @@
 -- The productions of XML as sentences on bytes.
-use Rattle.std.proofs.Common.{◌≡◌, ℕ, zero, suc, Bool, true, false, cond, ◌&&◌, not, List, [], ◌∷◌, ◌++◌, length, map, eqb, refl, sym, ap, subst, ◌∙◌, append_assoc, arith, inl}
+use Rattle.std.proofs.Common.{◌≡◌, ℕ, zero, suc, Bool, true, false, cond, ◌&&◌, not, List, [], ◌∷◌, ◌++◌, length, map, eqb, refl, sym, ap, subst, ◌∙◌, append_assoc, arith, inl, append-nil}
 use Rattle.std.specs.Prelude.{IsTrue}
 use Rattle.std.specs.List.{flat_map, list_all}
 use Rattle.std.specs.Str.{chars, encode_utf8_all}
-use Rattle.std.proofs.lemmas.Bool.{eqb-true}
+use Rattle.std.proofs.lemmas.Bool.{eqb-true, and_parts, and_from}
 use Rattle.std.proofs.lemmas.List.{append-nil, length-append}
 use Rattle.mm_tree.specs.declared.Kind.{Kind}
 use Rattle.mm_tree.specs.declared.Kind.TheVariants.{Element, Words}
@@ -12,7 +12,6 @@ use Rattle.mm_tree.specs.Trees.{Trees, none, node, Tree}
 use Rattle.mm_xml.specs.Syntax.{Literal, Reference, is_literal, meant, Written, spelled_written, attribute_of, Token, Data, Section, Comment, Instruction, Start, Close, Doctype, is_token, spelled}
 use Rattle.mm_xml.specs.Grammar.{Bracket, Begin, End, name_of, text_brackets, start_brackets, brackets, bracketing, is_inside, is_textual, normal}
 use Rattle.mm_xml.specs.Productions.{is_plain, PartBy, text_of, SpellsRun, ends_text, is_content, SpellsContent, behind_text, is_end, fewer, closes, SpellsElement}
-use Rattle.mm_xml.proofs.Spans.{both, both_true}
 use Rattle.mm_xml.proofs.Whole.{first}
 use Rattle.mm_xml.proofs.Joins.{plain_same, no_part, all_append, join_behind, join_markup, join_nothing, BeginsMarkup, part_of_one, start_plain, close_plain, start_ends, closed}
 
@@ -21,10 +20,6 @@ use Rattle.mm_xml.proofs.Joins.{plain_same, no_part, all_append, join_behind, jo
 -- tokens that end the text before them
 abbrev pub Cuts : List Token → Type 0
 Cuts ys = (run : List ℕ) → brackets run ys ≡ text_brackets run ++ brackets [] ys
-
-pub nothing_more : (ps : List Bracket) → ps ++ [] ≡ ps
-nothing_more [] = refl
-nothing_more (p ∷ ps) = ap (λ (qs : List Bracket). p ∷ qs) (nothing_more ps)
 
 regroup : (a b p q : List Bracket) → a ++ (b ++ (p ++ q)) ≡ (a ++ (b ++ p)) ++ q
 regroup a b p q = sym (simp append_assoc)
@@ -47,7 +42,7 @@ behind_start P false depth xs more last k = more (suc depth) k
 behind_start P true depth xs more last k = elim (is_inside depth) as (λ b. cond b (closes depth xs) (is_end xs) ≡ true → P) [ true ↦ λ m. more depth m | false ↦ λ m. last m ] k
 
 behind_close : (P : Type 0) (depth : ℕ) (xs : List Token) → ((d : ℕ) → closes d xs ≡ true → P) → (is_end xs ≡ true → P) → (is_inside depth && cond (is_inside (fewer depth)) (closes (fewer depth) xs) (is_end xs)) ≡ true → P
-behind_close P depth xs more last h = elim (is_inside (fewer depth)) as (λ b. cond b (closes (fewer depth) xs) (is_end xs) ≡ true → P) [ true ↦ λ m. more (fewer depth) m | false ↦ λ m. last m ] (both (is_inside depth) _ h).1
+behind_close P depth xs more last h = elim (is_inside (fewer depth)) as (λ b. cond b (closes (fewer depth) xs) (is_end xs) ≡ true → P) [ true ↦ λ m. more (fewer depth) m | false ↦ λ m. last m ] (and_parts (is_inside depth) _ h).1
 
 ended_brackets : (xs ys : List Token) → is_end xs ≡ true → brackets [] (xs ++ ys) ≡ brackets [] xs ++ brackets [] ys
 ended_brackets [] ys k = refl
@@ -60,10 +55,10 @@ ended_content (x ∷ xs) k = absurd cc
 -- the last token of an element is a tag
 pub closes_append : (xs : List Token) (depth : ℕ) (run : List ℕ) (ys : List Token) → closes depth xs ≡ true → brackets run (xs ++ ys) ≡ brackets run xs ++ brackets [] ys
 closes_append [] depth run ys h = absurd cc
-closes_append (Data p ∷ xs) depth run ys h = closes_append xs depth (run ++ meant p) ys (both (is_inside depth) _ h).1
-closes_append (Section cs ∷ xs) depth run ys h = closes_append xs depth (run ++ cs) ys (both (is_inside depth) _ h).1
-closes_append (Comment cs ∷ xs) depth run ys h = closes_append xs depth run ys (both (is_inside depth) _ h).1
-closes_append (Instruction name cs ∷ xs) depth run ys h = closes_append xs depth run ys (both (is_inside depth) _ h).1
+closes_append (Data p ∷ xs) depth run ys h = closes_append xs depth (run ++ meant p) ys (and_parts (is_inside depth) _ h).1
+closes_append (Section cs ∷ xs) depth run ys h = closes_append xs depth (run ++ cs) ys (and_parts (is_inside depth) _ h).1
+closes_append (Comment cs ∷ xs) depth run ys h = closes_append xs depth run ys (and_parts (is_inside depth) _ h).1
+closes_append (Instruction name cs ∷ xs) depth run ys h = closes_append xs depth run ys (and_parts (is_inside depth) _ h).1
 closes_append (Start e name ws gap ∷ xs) depth run ys h =
     ap (λ (ps : List Bracket). text_brackets run ++ (start_brackets e name ws ++ ps)) (behind_start (brackets [] (xs ++ ys) ≡ brackets [] xs ++ brackets [] ys) e depth xs (λ d k. closes_append xs d [] ys k) (λ k. ended_brackets xs ys k) h)
     ∙ regroup (text_brackets run) (start_brackets e name ws) (brackets [] xs) (brackets [] ys)
@@ -75,10 +70,10 @@ closes_append (Doctype gap name ext after ∷ xs) depth run ys h = absurd cc
 -- no document type stands in an element
 closes_content : (xs : List Token) (depth : ℕ) → closes depth xs ≡ true → list_all is_content xs ≡ true
 closes_content [] depth h = refl
-closes_content (Data p ∷ xs) depth h = closes_content xs depth (both (is_inside depth) _ h).1
-closes_content (Section cs ∷ xs) depth h = closes_content xs depth (both (is_inside depth) _ h).1
-closes_content (Comment cs ∷ xs) depth h = closes_content xs depth (both (is_inside depth) _ h).1
-closes_content (Instruction name cs ∷ xs) depth h = closes_content xs depth (both (is_inside depth) _ h).1
+closes_content (Data p ∷ xs) depth h = closes_content xs depth (and_parts (is_inside depth) _ h).1
+closes_content (Section cs ∷ xs) depth h = closes_content xs depth (and_parts (is_inside depth) _ h).1
+closes_content (Comment cs ∷ xs) depth h = closes_content xs depth (and_parts (is_inside depth) _ h).1
+closes_content (Instruction name cs ∷ xs) depth h = closes_content xs depth (and_parts (is_inside depth) _ h).1
 closes_content (Start e name ws gap ∷ xs) depth h = behind_start (list_all is_content xs ≡ true) e depth xs (λ d k. closes_content xs d k) (λ k. ended_content xs k) h
 closes_content (Close name gap ∷ xs) depth h = behind_close (list_all is_content xs ≡ true) depth xs (λ d k. closes_content xs d k) (λ k. ended_content xs k) h
 closes_content (Doctype gap name ext after ∷ xs) depth h = absurd cc
@@ -102,7 +97,7 @@ down_text : (run : List ℕ) (n : ℕ) (ps : List Bracket) → down n (text_brac
 down_text run n ps = elim (list_all is_space run) as (λ b. down n ((cond b [] (Begin (Words (encode_utf8_all run)) ∷ End [] ∷ [])) ++ ps) ≡ down n ps) [ true ↦ refl | false ↦ refl ]
 
 inside_closes : (ys : List Token) (run name gap : List ℕ) (n : ℕ) → list_all is_content ys ≡ true → down n (brackets run ys) ≡ true → closes (suc n) (ys ++ Close name gap ∷ []) ≡ true
-inside_closes [] run name gap n c h = last n (sym (down_text run n []) ∙ ap (λ (qs : List Bracket). down n qs) (nothing_more (text_brackets run)) ∙ h)
+inside_closes [] run name gap n c h = last n (sym (down_text run n []) ∙ ap (λ (qs : List Bracket). down n qs) (append-nil (text_brackets run)) ∙ h)
   where
     last : (n : ℕ) → down n [] ≡ true → closes (suc n) (Close name gap ∷ []) ≡ true
     last zero k = refl
@@ -122,7 +117,7 @@ inside_closes (Doctype g own ext after ∷ ys) run name gap n c h = absurd cc
 pub empty_element : (name gap : List ℕ) (attributes : List Written) → IsTrue (is_token (Start true name attributes gap)) → IsTrue (list_all is_plain (flat_map spelled_written attributes ++ gap))
     → SpellsElement (encode_utf8_all (spelled (Start true name attributes gap))) (Element (encode_utf8_all name) (map attribute_of attributes), none)
 empty_element name gap ws is plain =
-    let n = (both (is_short_name name) _ is).0 in
+    let n = (and_parts (is_short_name name) _ is).0 in
     (Start true name ws gap ∷ [], part_of_one (Start true name ws gap) is (start_plain true name gap ws n plain) refl, refl, refl)
 
 -- an end tag begins with `<`
@@ -133,18 +128,18 @@ pub element : (name gap close_gap content : List ℕ) (attributes : List Written
     → IsTrue (list_all is_space close_gap) → IsTrue (list_all is_plain close_gap) → SpellsContent content children
     → SpellsElement (encode_utf8_all (spelled (Start false name attributes gap)) ++ (content ++ encode_utf8_all (spelled (Close name close_gap)))) (Element (encode_utf8_all name) (map attribute_of attributes), children)
 element name gap close_gap content ws children is plain spaces plain_gap c =
-    let n = (both (is_short_name name) _ is).0 in
+    let n = (and_parts (is_short_name name) _ is).0 in
     let ys = c.0 in
     let opening = Start false name ws gap in
     let closing = Close name close_gap in
     let tag = close_plain name close_gap n plain_gap in
     let first = part_of_one opening is (start_plain false name gap ws n plain) refl in
-    let last = part_of_one closing (both_true _ _ n spaces) tag refl in
+    let last = part_of_one closing (and_from _ _ n spaces) tag refl in
     let inner = join_markup content (encode_utf8_all (spelled closing)) ys (closing ∷ []) c.1 last (encoded_tag _ (plain_same (spelled closing) tag)) in
     let kind = Element (encode_utf8_all name) (map attribute_of ws) in (
       opening ∷ (ys ++ closing ∷ []),
       join_behind (encode_utf8_all (spelled opening)) (content ++ encode_utf8_all (spelled closing)) (opening ∷ []) (ys ++ closing ∷ []) first inner (start_ends false name gap ws) refl,
-      inside_closes ys [] name close_gap 0 c.2 (ap (λ (qs : List Bracket). down 0 qs) (c.3 ∙ sym (nothing_more (bracketing children))) ∙ down_trees children 0 []),
+      inside_closes ys [] name close_gap 0 c.2 (ap (λ (qs : List Bracket). down 0 qs) (c.3 ∙ sym (append-nil (bracketing children))) ∙ down_trees children 0 []),
       ap (λ (ps : List Bracket). Begin kind ∷ ps) (brackets_append ys [] (closing ∷ []) (λ run. refl) ∙ ap (λ (ps : List Bracket). ps ++ End (encode_utf8_all name) ∷ []) c.3),
     )
 
@@ -165,8 +160,8 @@ head (c ∷ cs) = c
 
 -- a tag is the first token there, or there is none
 tag_first : (ys : List Token) (d : ℕ) (r : List ℕ) → list_all is_token ys ≡ true → eqb d 33 ≡ false → eqb d 63 ≡ false → flat_map spelled ys ≡ 60 ∷ d ∷ r → Cuts ys
-tag_first [] d r each a b e = λ run. sym (nothing_more (text_brackets run))
-tag_first (Data (Literal c) ∷ ys) d r each a b e = absurd (less c (flat_map spelled ys) (d ∷ r) (both (is_literal c) (list_all is_token ys) each).0 e)
+tag_first [] d r each a b e = λ run. sym (append-nil (text_brackets run))
+tag_first (Data (Literal c) ∷ ys) d r each a b e = absurd (less c (flat_map spelled ys) (d ∷ r) (and_parts (is_literal c) (list_all is_token ys) each).0 e)
   where
     less : (c : ℕ) (x y : List ℕ) → is_literal c ≡ true → c ∷ x ≡ 60 ∷ y → ⊥
     less c x y h e = let same : c ≡ 60 = cc in let k : is_literal 60 ≡ true = subst (λ (n : ℕ). is_literal n ≡ true) same h in cc
@@ -223,8 +218,8 @@ ends_there content h = from (chars content) refl h
     from [] e h = Nothing e
     from (c ∷ []) e h = absurd cc
     from (c ∷ d ∷ r) e h =
-        let w = both (eqb c 60) _ h in
-        let v = both (not (eqb d 33)) (not (eqb d 63)) w.1 in
+        let w = and_parts (eqb c 60) _ h in
+        let v = and_parts (not (eqb d 33)) (not (eqb d 63)) w.1 in
         Tagged d r (e ∙ ap (λ n. n ∷ d ∷ r) (eqb-true c 60 w.0)) (negated (eqb d 33) v.0) (negated (eqb d 63) v.1)
 
 pub text_in_content : (text_bytes text content : List ℕ) (children : Trees Kind) → SpellsRun text_bytes text → IsTrue (ends_text (chars content)) → SpellsContent content children → SpellsContent (text_bytes ++ content) (behind_text text children)
@@ -242,7 +237,7 @@ text_in_content bytes text content children s h c = elim (ends_there content h) 
     )
 
     no_tokens : (ys : List Token) → flat_map spelled ys ≡ [] → Cuts ys
-    no_tokens [] e = λ run. sym (nothing_more (text_brackets run))
+    no_tokens [] e = λ run. sym (append-nil (text_brackets run))
     no_tokens (y ∷ ys) e = let f = first y in absurd (omega (arith, length-append (spelled y) (flat_map spelled ys), ap length f.2, ap length e))
 
     cut_tag : (d : ℕ) (r : List ℕ) → chars content ≡ 60 ∷ d ∷ r → eqb d 33 ≡ false → eqb d 63 ≡ false → Cuts c.0

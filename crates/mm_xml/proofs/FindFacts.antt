@@ -6,6 +6,7 @@ use Rattle.mm_tree.specs.Characters.{is_space}
 use Rattle.mm_xml.specs.declared.error.XmlError.{XmlError}
 use Rattle.mm_xml.specs.declared.error.XmlError.TheVariants as error
 use Rattle.std.specs.Prelude.{Err}
+use Rattle.std.proofs.lemmas.Bool.{and_parts}
 use Rattle.mm_xml.specs.Grammar.{is_inside}
 use Rattle.mm_xml.specs.Lexing.{Found, span}
 use Rattle.mm_xml.specs.Telling.{Sign, Character, Passage, sign_at}
@@ -13,7 +14,7 @@ use Rattle.mm_xml.specs.Passages.{is_ordinary, passage_at}
 use Rattle.mm_xml.specs.Machine.{Order, cut, sign_may, sign_next}
 use Rattle.mm_xml.specs.Outlines.{Outlined, outline_step, outline_ends, outline_text, holds, outline_from}
 use Rattle.mm_xml.specs.Builds.{Blanks, Outlines}
-use Rattle.mm_xml.proofs.Spans.{some, both, span_all, span_whole}
+use Rattle.mm_xml.proofs.Spans.{some, span_all, span_whole}
 use Rattle.mm_xml.proofs.OutlineFacts.{on_outline}
 use Rattle.mm_xml.proofs.Passages.{ordinary_sign, ordinary_may, ordinary_next, sign_shorter}
 
@@ -63,7 +64,7 @@ all_steps : (xs rest : List ℕ) (n m : ℕ) (o : Outlined) (blank : Bool) (orde
 all_steps [] rest n m o blank order each inside enough few = outline_enough n m o blank (cut order) rest enough few ∙ ap (λ b. outline_from m o b (cut order) rest) (with_true blank)
 all_steps (x ∷ xs) rest zero m o blank order each inside enough few = absurd (omega (arith, enough))
 all_steps (x ∷ xs) rest (suc n) m o blank order each inside enough few =
-    let w = both (is_ordinary x) (list_all is_ordinary xs) each in
+    let w = and_parts (is_ordinary x) (list_all is_ordinary xs) each in
     one_step n o blank (cut order) x (xs ++ rest) w.0 inside
     ∙ all_steps xs rest n m o (blank && is_space x) order w.1 inside (omega (arith, enough)) few
     ∙ ap (λ b. outline_from m o b (cut order) rest) (regroup blank (is_space x) (list_all is_space xs))
@@ -72,7 +73,7 @@ passage_found : (xs rest : List ℕ) (m : ℕ) (o : Outlined) (blank : Bool) (or
     → outline_from (suc m) o blank order (xs ++ rest) ≡ on_outline m o blank order (Passage xs, rest)
 passage_found [] rest m o blank order each filled inside enough = absurd cc
 passage_found (x ∷ xs) rest m o blank order each filled inside enough =
-    let w = both (is_ordinary x) (list_all is_ordinary xs) each in
+    let w = and_parts (is_ordinary x) (list_all is_ordinary xs) each in
     one_step m o blank order x (xs ++ rest) w.0 inside
     ∙ all_steps xs rest m m o (blank && is_space x) order w.1 inside (omega (arith, enough)) (omega (arith, enough, length-append xs rest))
     ∙ ap (λ b. outline_from m o b (cut order) rest) (regroup blank (is_space x) (list_all is_space xs))
@@ -86,7 +87,7 @@ passage_is m o blank order c cs enough =
     let whole : xs ++ rest ≡ c ∷ cs = span_whole is_ordinary (c ∷ cs) in
     elim (is_inside order.depth && not (eqb (length xs) 0)) as (λ b. (is_inside order.depth && not (eqb (length xs) 0)) ≡ b → outline_from (suc m) o blank order (c ∷ cs) ≡ holds (cond b (some (Passage xs, rest)) (sign_at (c ∷ cs))) (λ x. on_outline m o blank order x)) [
       | true ↦ λ e.
-          let w = both (is_inside order.depth) (not (eqb (length xs) 0)) e in
+          let w = and_parts (is_inside order.depth) (not (eqb (length xs) 0)) e in
           ap (λ (r : List ℕ). outline_from (suc m) o blank order r) (sym whole) ∙ passage_found xs rest m o blank order (span_all is_ordinary (c ∷ cs)) w.1 w.0 (omega (arith, enough, ap length whole))
       | false ↦ λ e. refl
     ] refl

@@ -1,9 +1,9 @@
 -- The two forms of a payload: a document, and a text.
-use Rattle.std.proofs.Common.{◌≡◌, ℕ, zero, suc, ◌+◌, ◌-◌, Bool, true, false, cond, List, [], ◌∷◌, ◌++◌, Option, Some, None, eqb, refl, sym, ap, subst, ◌∙◌, append_assoc, arith, ◌⊎◌, inl, inr}
+use Rattle.std.proofs.Common.{◌≡◌, ℕ, zero, suc, ◌+◌, ◌-◌, Bool, true, false, cond, List, [], ◌∷◌, ◌++◌, Option, Some, None, eqb, refl, sym, ap, subst, ◌∙◌, arith, ◌⊎◌, inl, inr, append-nil}
 use Rattle.std.specs.Prelude.{IsTrue}
 use Rattle.std.specs.List.{flat_map, list_all}
 use Rattle.std.specs.Str.{chars, encode_utf8_all}
-use Rattle.std.proofs.lemmas.Bool.{eqb-true}
+use Rattle.std.proofs.lemmas.Bool.{eqb-true, and_parts, and_from, or_cases, or_left, or_right}
 use Rattle.std.proofs.lemmas.List.Folds.{list_all-append}
 use Rattle.mm_tree.specs.declared.Kind.{Kind}
 use Rattle.mm_tree.specs.declared.Kind.TheVariants.{Words}
@@ -13,29 +13,28 @@ use Rattle.mm_tree.specs.Validity.{are_chars}
 use Rattle.mm_xml.specs.Syntax.{Literal, Reference, Token, Data, Section, Comment, Instruction, Start, Close, Doctype, spelled, Declaration, is_declaration, spelled_declaration, spelled_setting, spelled_if, version_word, encoding_word, standalone_word, declaration_end}
 use Rattle.mm_xml.specs.Grammar.{Bracket, Begin, End, text_brackets, brackets, bracketing, outside, is_inside, is_textual, is_document, is_text, spelled_first, normal, without_mark, characters, SpelledBy, Spells}
 use Rattle.mm_xml.specs.Productions.{is_plain, lines, SpellsRun, is_end, fewer, closes, SpellsElement, is_misc, SpellsMisc, is_prolog, SpellsProlog, is_first, is_marked, SpellsDocument, SpellsText}
-use Rattle.mm_xml.proofs.Spans.{both, both_true}
-use Rattle.mm_xml.proofs.Whole.{same_tokens, rest_spelled, either_true, either_left, either_right}
-use Rattle.mm_xml.proofs.Joins.{together, normal_append, no_return, last_append, last_or, join_behind, join_markup, closed, plain_same, plain_lines, plain_encoded}
-use Rattle.mm_xml.proofs.Elements.{closes_append, nothing_more, run_brackets}
+use Rattle.mm_xml.proofs.Whole.{same_tokens, rest_spelled}
+use Rattle.mm_xml.proofs.Joins.{together, normal_append, no_return, last_append, last_or, join_behind, join_markup, closed, plain_same, plain_lines, plain_encoded, spelled_append}
+use Rattle.mm_xml.proofs.Elements.{closes_append, run_brackets}
 
 -- ---- the forms apart
 
 pub two_forms : (bytes : List ℕ) (t : Tree Kind) → Spells bytes t → SpellsDocument bytes t ⊎ SpellsText bytes t
-two_forms bytes t s = elim (either_true (is_document s.0 s.1) (is_text s.0 s.1) s.2.by.form) [
+two_forms bytes t s = elim (or_cases (is_document s.0 s.1) (is_text s.0 s.1) s.2.by.form) [
   | inl h ↦ inl (s.0, s.1, s.2, h)
   | inr h ↦ inr (s.0, s.1, s.2, h)
 ]
 
 document_outside : (first : Option Declaration) (ts : List Token) → is_document first ts ≡ true → outside true 0 ts ≡ true
 document_outside None ts h = h
-document_outside (Some d) ts h = (both (is_declaration d) (outside true 0 ts) h).1
+document_outside (Some d) ts h = (and_parts (is_declaration d) (outside true 0 ts) h).1
 
 text_textual : (first : Option Declaration) (ts : List Token) → is_text first ts ≡ true → list_all is_textual ts ≡ true
 text_textual None ts h = h
 text_textual (Some d) ts h = absurd cc
 
 blank_more : (run : List ℕ) (c : ℕ) → list_all is_space run ≡ true → is_space c ≡ true → list_all is_space (run ++ c ∷ []) ≡ true
-blank_more run c h k = list_all-append is_space run (c ∷ []) ∙ both_true _ _ h (both_true (is_space c) true k refl)
+blank_more run c h k = list_all-append is_space run (c ∷ []) ∙ and_from _ _ h (and_from (is_space c) true k refl)
 
 blank_text : (run : List ℕ) → list_all is_space run ≡ true → text_brackets run ≡ []
 blank_text run h = ap (λ b. cond b [] (Begin (Words (encode_utf8_all run)) ∷ End [] ∷ [])) h
@@ -43,7 +42,7 @@ blank_text run h = ap (λ b. cond b [] (Begin (Words (encode_utf8_all run)) ∷ 
 -- no text stands outside an element, unless it is blank
 blank_outside : (ts : List Token) (run : List ℕ) (before : Bool) → list_all is_space run ≡ true → outside before 0 ts ≡ true → list_all is_textual ts ≡ true → brackets run ts ≡ []
 blank_outside [] run before blank o t = blank_text run blank
-blank_outside (Data (Literal c) ∷ ts) run before blank o t = let w = both (is_space c) (outside before 0 ts) o in blank_outside ts (run ++ c ∷ []) before (blank_more run c blank w.0) w.1 t
+blank_outside (Data (Literal c) ∷ ts) run before blank o t = let w = and_parts (is_space c) (outside before 0 ts) o in blank_outside ts (run ++ c ∷ []) before (blank_more run c blank w.0) w.1 t
 blank_outside (Data (Reference body) ∷ ts) run before blank o t = absurd cc
 blank_outside (Section cs ∷ ts) run before blank o t = absurd cc
 blank_outside (Comment cs ∷ ts) run before blank o t = blank_outside ts run before blank o t
@@ -55,7 +54,7 @@ blank_outside (Doctype gap name ext after ∷ ts) run before blank o t = absurd 
 nothing_there : (kind : Kind) (ps : List Bracket) → [] ≡ Begin kind ∷ ps → ⊥
 nothing_there kind ps e = cc
 
--- no bytes are both
+-- no bytes are and_parts
 pub one_form : (bytes : List ℕ) (t u : Tree Kind) → SpellsDocument bytes t → ¬ SpellsText bytes u
 one_form bytes t u a b =
     let equal = same_tokens a.1 b.1 a.2.by.each b.2.by.each (sym (rest_spelled (characters bytes) t a.0 a.1 a.2.by) ∙ rest_spelled (characters bytes) u b.0 b.1 b.2.by) in
@@ -101,7 +100,7 @@ text_form bytes text s ink plain = (
       each = s.1.each;
       spelled_so = ap (λ (x : List ℕ). normal false x) (unmarked (chars bytes) plain) ∙ s.1.spelled_so;
       whole = s.1.whole;
-      form = either_right (outside true 0 s.0) (list_all is_textual s.0) s.2;
+      form = or_right (outside true 0 s.0) (list_all is_textual s.0) s.2;
       tree_is = ap (λ (x : List Token). brackets [] x) (sym (none_more s.0)) ∙ run_brackets s.0 [] [] s.2 ∙ ap (λ (r : List ℕ). text_brackets r) s.3 ∙ ap (λ b. cond b [] (Begin (Words (encode_utf8_all text)) ∷ End [] ∷ [])) ink;
     };
   },
@@ -116,7 +115,7 @@ text_form bytes text s ink plain = (
 
 misc_outside : (ms : List Token) (before : Bool) (depth : ℕ) → list_all is_misc ms ≡ true → outside before depth ms ≡ true
 misc_outside [] before depth h = refl
-misc_outside (Data (Literal c) ∷ ms) before depth h = let w = both (is_space c) (list_all is_misc ms) h in both_true _ _ (either_right (is_inside depth) (is_space c) w.0) (misc_outside ms before depth w.1)
+misc_outside (Data (Literal c) ∷ ms) before depth h = let w = and_parts (is_space c) (list_all is_misc ms) h in and_from _ _ (or_right (is_inside depth) (is_space c) w.0) (misc_outside ms before depth w.1)
 misc_outside (Data (Reference body) ∷ ms) before depth h = absurd cc
 misc_outside (Section cs ∷ ms) before depth h = absurd cc
 misc_outside (Comment cs ∷ ms) before depth h = misc_outside ms before depth h
@@ -127,7 +126,7 @@ misc_outside (Doctype gap name ext after ∷ ms) before depth h = absurd cc
 
 misc_brackets : (ms : List Token) (run : List ℕ) → list_all is_misc ms ≡ true → list_all is_space run ≡ true → brackets run ms ≡ []
 misc_brackets [] run h blank = blank_text run blank
-misc_brackets (Data (Literal c) ∷ ms) run h blank = let w = both (is_space c) (list_all is_misc ms) h in misc_brackets ms (run ++ c ∷ []) w.1 (blank_more run c blank w.0)
+misc_brackets (Data (Literal c) ∷ ms) run h blank = let w = and_parts (is_space c) (list_all is_misc ms) h in misc_brackets ms (run ++ c ∷ []) w.1 (blank_more run c blank w.0)
 misc_brackets (Data (Reference body) ∷ ms) run h blank = absurd cc
 misc_brackets (Section cs ∷ ms) run h blank = absurd cc
 misc_brackets (Comment cs ∷ ms) run h blank = misc_brackets ms run h blank
@@ -146,11 +145,11 @@ end_outside (x ∷ xs) ms depth h k = absurd cc
 
 closes_outside : (xs : List Token) (depth : ℕ) (before : Bool) (ms : List Token) → closes depth xs ≡ true → list_all is_misc ms ≡ true → outside before depth (xs ++ ms) ≡ true
 closes_outside [] depth before ms h m = absurd cc
-closes_outside (Data (Literal c) ∷ xs) depth before ms h m = let w = both (is_inside depth) _ h in both_true _ _ (either_left (is_inside depth) (is_space c) w.0) (closes_outside xs depth before ms w.1 m)
-closes_outside (Data (Reference body) ∷ xs) depth before ms h m = let w = both (is_inside depth) _ h in both_true _ _ w.0 (closes_outside xs depth before ms w.1 m)
-closes_outside (Section cs ∷ xs) depth before ms h m = let w = both (is_inside depth) _ h in both_true _ _ w.0 (closes_outside xs depth before ms w.1 m)
-closes_outside (Comment cs ∷ xs) depth before ms h m = closes_outside xs depth before ms (both (is_inside depth) _ h).1 m
-closes_outside (Instruction name cs ∷ xs) depth before ms h m = closes_outside xs depth before ms (both (is_inside depth) _ h).1 m
+closes_outside (Data (Literal c) ∷ xs) depth before ms h m = let w = and_parts (is_inside depth) _ h in and_from _ _ (or_left (is_inside depth) (is_space c) w.0) (closes_outside xs depth before ms w.1 m)
+closes_outside (Data (Reference body) ∷ xs) depth before ms h m = let w = and_parts (is_inside depth) _ h in and_from _ _ w.0 (closes_outside xs depth before ms w.1 m)
+closes_outside (Section cs ∷ xs) depth before ms h m = let w = and_parts (is_inside depth) _ h in and_from _ _ w.0 (closes_outside xs depth before ms w.1 m)
+closes_outside (Comment cs ∷ xs) depth before ms h m = closes_outside xs depth before ms (and_parts (is_inside depth) _ h).1 m
+closes_outside (Instruction name cs ∷ xs) depth before ms h m = closes_outside xs depth before ms (and_parts (is_inside depth) _ h).1 m
 closes_outside (Start false name ws gap ∷ xs) depth before ms h m = ap (λ n. outside false n (xs ++ ms)) (one_more depth) ∙ closes_outside xs (suc depth) false ms h m
   where
     one_more : (n : ℕ) → n + 1 ≡ suc n
@@ -159,30 +158,30 @@ closes_outside (Start true name ws gap ∷ xs) depth before ms h m =
     elim (is_inside depth) as (λ b. cond b (closes depth xs) (is_end xs) ≡ true → outside false depth (xs ++ ms) ≡ true) [ true ↦ λ k. closes_outside xs depth false ms k m | false ↦ λ k. end_outside xs ms depth m k ] h
 closes_outside (Close name gap ∷ xs) depth before ms h m =
     ap (λ n. outside false n (xs ++ ms)) (sym (fewer_is depth))
-    ∙ elim (is_inside (fewer depth)) as (λ b. cond b (closes (fewer depth) xs) (is_end xs) ≡ true → outside false (fewer depth) (xs ++ ms) ≡ true) [ true ↦ λ k. closes_outside xs (fewer depth) false ms k m | false ↦ λ k. end_outside xs ms (fewer depth) m k ] (both (is_inside depth) _ h).1
+    ∙ elim (is_inside (fewer depth)) as (λ b. cond b (closes (fewer depth) xs) (is_end xs) ≡ true → outside false (fewer depth) (xs ++ ms) ≡ true) [ true ↦ λ k. closes_outside xs (fewer depth) false ms k m | false ↦ λ k. end_outside xs ms (fewer depth) m k ] (and_parts (is_inside depth) _ h).1
 closes_outside (Doctype gap name ext after ∷ xs) depth before ms h m = absurd cc
 
 prolog_outside : (ps : List Token) (before : Bool) (zs : List Token) → is_prolog before ps ≡ true → ((b : Bool) → outside b 0 zs ≡ true) → outside before 0 (ps ++ zs) ≡ true
 prolog_outside [] before zs h z = z before
-prolog_outside (Data (Literal c) ∷ ps) before zs h z = let w = both (is_space c) (is_prolog before ps) h in both_true _ _ w.0 (prolog_outside ps before zs w.1 z)
+prolog_outside (Data (Literal c) ∷ ps) before zs h z = let w = and_parts (is_space c) (is_prolog before ps) h in and_from _ _ w.0 (prolog_outside ps before zs w.1 z)
 prolog_outside (Data (Reference body) ∷ ps) before zs h z = absurd cc
 prolog_outside (Section cs ∷ ps) before zs h z = absurd cc
 prolog_outside (Comment cs ∷ ps) before zs h z = prolog_outside ps before zs h z
 prolog_outside (Instruction name cs ∷ ps) before zs h z = prolog_outside ps before zs h z
 prolog_outside (Start empty name ws gap ∷ ps) before zs h z = absurd cc
 prolog_outside (Close name gap ∷ ps) before zs h z = absurd cc
-prolog_outside (Doctype gap name ext after ∷ ps) before zs h z = let w = both before (is_prolog false ps) h in both_true _ _ w.0 (prolog_outside ps false zs w.1 z)
+prolog_outside (Doctype gap name ext after ∷ ps) before zs h z = let w = and_parts before (is_prolog false ps) h in and_from _ _ w.0 (prolog_outside ps false zs w.1 z)
 
 prolog_brackets : (ps : List Token) (before : Bool) (run : List ℕ) (zs : List Token) → is_prolog before ps ≡ true → list_all is_space run ≡ true → ((run : List ℕ) → list_all is_space run ≡ true → brackets run zs ≡ brackets [] zs) → brackets run (ps ++ zs) ≡ brackets [] zs
 prolog_brackets [] before run zs h blank z = z run blank
-prolog_brackets (Data (Literal c) ∷ ps) before run zs h blank z = let w = both (is_space c) (is_prolog before ps) h in prolog_brackets ps before (run ++ c ∷ []) zs w.1 (blank_more run c blank w.0) z
+prolog_brackets (Data (Literal c) ∷ ps) before run zs h blank z = let w = and_parts (is_space c) (is_prolog before ps) h in prolog_brackets ps before (run ++ c ∷ []) zs w.1 (blank_more run c blank w.0) z
 prolog_brackets (Data (Reference body) ∷ ps) before run zs h blank z = absurd cc
 prolog_brackets (Section cs ∷ ps) before run zs h blank z = absurd cc
 prolog_brackets (Comment cs ∷ ps) before run zs h blank z = prolog_brackets ps before run zs h blank z
 prolog_brackets (Instruction name cs ∷ ps) before run zs h blank z = prolog_brackets ps before run zs h blank z
 prolog_brackets (Start empty name ws gap ∷ ps) before run zs h blank z = absurd cc
 prolog_brackets (Close name gap ∷ ps) before run zs h blank z = absurd cc
-prolog_brackets (Doctype gap name ext after ∷ ps) before run zs h blank z = prolog_brackets ps false run zs (both before (is_prolog false ps) h).1 blank z
+prolog_brackets (Doctype gap name ext after ∷ ps) before run zs h blank z = prolog_brackets ps false run zs (and_parts before (is_prolog false ps) h).1 blank z
 
 -- an element begins with its start tag
 record Opening (xs : List Token) : Type 0 where
@@ -216,7 +215,7 @@ first_tag (c ∷ cs) rest e = elim (eqb c 13) as (λ b. cond b (10 ∷ normal tr
 
 prolog_unmarked : (ps : List Token) (before : Bool) (zs : List Token) (r : List ℕ) → is_prolog before ps ≡ true → flat_map spelled zs ≡ 60 ∷ r → is_marked (flat_map spelled (ps ++ zs)) ≡ false
 prolog_unmarked [] before zs r h e = ap is_marked e
-prolog_unmarked (Data (Literal c) ∷ ps) before zs r h e = space_no_mark c (both (is_space c) (is_prolog before ps) h).0
+prolog_unmarked (Data (Literal c) ∷ ps) before zs r h e = space_no_mark c (and_parts (is_space c) (is_prolog before ps) h).0
   where
     space_no_mark : (c : ℕ) → is_space c ≡ true → eqb c 65279 ≡ false
     space_no_mark c h = elim (eqb c 65279) as (λ b. eqb c 65279 ≡ b → b ≡ false) [ true ↦ λ e. let k : is_space 65279 ≡ true = subst (λ (n : ℕ). is_space n ≡ true) (eqb-true c 65279 e) h in absurd cc | false ↦ λ e. refl ] refl
@@ -227,10 +226,6 @@ prolog_unmarked (Instruction name cs ∷ ps) before zs r h e = refl
 prolog_unmarked (Start empty name ws gap ∷ ps) before zs r h e = refl
 prolog_unmarked (Close name gap ∷ ps) before zs r h e = refl
 prolog_unmarked (Doctype gap name ext after ∷ ps) before zs r h e = refl
-
-spelled_append : (xs ys : List Token) → flat_map spelled (xs ++ ys) ≡ flat_map spelled xs ++ flat_map spelled ys
-spelled_append [] ys = refl
-spelled_append (x ∷ xs) ys = ap (λ (r : List ℕ). spelled x ++ r) (spelled_append xs ys) ∙ sym (append_assoc (spelled x) (flat_map spelled xs) (flat_map spelled ys))
 
 -- what stands behind a declaration, or first
 declared_characters : (first : Option Declaration) (bytes cs : List ℕ) → list_all is_plain (spelled_first first) ≡ true → are_chars bytes ≡ true → lines bytes ≡ cs → is_marked cs ≡ false
@@ -253,7 +248,7 @@ declared_characters (Some d) bytes cs plain utf8 e h =
 
 first_document : (first : Option Declaration) (ts : List Token) → is_first first ≡ true → outside true 0 ts ≡ true → is_document first ts ≡ true
 first_document None ts h o = o
-first_document (Some d) ts h o = both_true _ _ h o
+first_document (Some d) ts h o = and_from _ _ h o
 
 pub document : (first : Option Declaration) (before bytes behind : List ℕ) (t : Tree Kind) → IsTrue (is_first first) → IsTrue (list_all is_plain (spelled_first first)) → SpellsProlog before → SpellsElement bytes t → SpellsMisc behind
     → SpellsDocument (encode_utf8_all (spelled_first first) ++ (before ++ (bytes ++ behind))) t
@@ -277,12 +272,12 @@ document first before bytes behind t is plain p s m =
           each = all.each;
           spelled_so = d.1;
           whole = all.whole;
-          form = either_left (is_document first (ps ++ (xs ++ ms))) (is_text first (ps ++ (xs ++ ms))) form;
+          form = or_left (is_document first (ps ++ (xs ++ ms))) (is_text first (ps ++ (xs ++ ms))) form;
           tree_is =
               prolog_brackets ps true [] (xs ++ ms) p.2 refl (λ run blank. o.blank ms run blank)
               ∙ closes_append xs 0 [] ms s.2
               ∙ (λ i. s.3 i ++ misc_brackets ms [] m.2 refl i)
-              ∙ nothing_more (bracketing (one t));
+              ∙ append-nil (bracketing (one t));
         };
       },
       form,

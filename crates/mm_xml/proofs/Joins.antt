@@ -6,12 +6,12 @@ use Rattle.std.proofs.lemmas.Bool.Decides.{nat_tests}
 use Rattle.std.proofs.lemmas.List.{append-nil}
 use Rattle.std.proofs.lemmas.List.Folds.{list_all-append}
 use Rattle.std.proofs.lemmas.Str.{is_utf8-from_IsUtf8, IsUtf8-from_is_utf8, IsUtf8-append, encodes-chars, chars_from_encodes}
+use Rattle.std.proofs.lemmas.Bool.{and_parts, and_from}
 use Rattle.mm_tree.specs.Characters.{is_char, is_name_char, is_short_name}
 use Rattle.mm_tree.specs.Validity.{are_chars}
 use Rattle.mm_xml.specs.Syntax.{Literal, Reference, is_literal, Written, spelled_written, ending, Token, Data, Section, Comment, Instruction, Start, Close, Doctype, is_token, spelled}
 use Rattle.mm_xml.specs.Grammar.{unbroken, normal, is_inside}
 use Rattle.mm_xml.specs.Productions.{is_plain, lines, PartBy, closes, is_end, fewer}
-use Rattle.mm_xml.proofs.Spans.{both, both_true}
 use Rattle.mm_xml.proofs.Attributes.{short_chars}
 use Rattle.mm_xml.proofs.EncodingFacts.{encoded_append}
 use Rattle.mm_xml.proofs.Valid.{same_chars, encoded_chars}
@@ -30,11 +30,11 @@ pub record Together (a b : List ℕ) : Type 0 where
 
 pub together : (a b : List ℕ) → are_chars a ≡ true → are_chars b ≡ true → Together a b
 together a b ha hb =
-    let p = both (is_utf8 a) (list_all is_char (chars a)) ha in
-    let q = both (is_utf8 b) (list_all is_char (chars b)) hb in
+    let p = and_parts (is_utf8 a) (list_all is_char (chars a)) ha in
+    let q = and_parts (is_utf8 b) (list_all is_char (chars b)) hb in
     let e = chars_append a b p.0 q.0 in
     record {
-      encoded = both_true _ _ (is_utf8-from_IsUtf8 (a ++ b) (IsUtf8-append a b (IsUtf8-from_is_utf8 a p.0) (IsUtf8-from_is_utf8 b q.0))) (ap (λ (x : List ℕ). list_all is_char x) e ∙ list_all-append is_char (chars a) (chars b) ∙ both_true _ _ p.1 q.1);
+      encoded = and_from _ _ (is_utf8-from_IsUtf8 (a ++ b) (IsUtf8-append a b (IsUtf8-from_is_utf8 a p.0) (IsUtf8-from_is_utf8 b q.0))) (ap (λ (x : List ℕ). list_all is_char x) e ∙ list_all-append is_char (chars a) (chars b) ∙ and_from _ _ p.1 q.1);
       chars_are = e;
     }
 
@@ -96,7 +96,7 @@ either_way true [] h = refl
 either_way true (c ∷ cs) h = ap (λ b. cond (eqb c 13) (10 ∷ normal true cs) (cond b (normal false cs) (c ∷ normal false cs))) h
 
 plain_is : (c : ℕ) → is_plain c ≡ true → (is_char c ≡ true) × (eqb c 13 ≡ false)
-plain_is c h = let w = both (is_char c) (not (eqb c 13)) h in (w.0, negated (eqb c 13) w.1)
+plain_is c h = let w = and_parts (is_char c) (not (eqb c 13)) h in (w.0, negated (eqb c 13) w.1)
   where
     negated : (b : Bool) → not b ≡ true → b ≡ false
     negated true e = absurd cc
@@ -104,12 +104,12 @@ plain_is c h = let w = both (is_char c) (not (eqb c 13)) h in (w.0, negated (eqb
 
 plain_chars : (cs : List ℕ) → list_all is_plain cs ≡ true → list_all is_char cs ≡ true
 plain_chars [] h = refl
-plain_chars (c ∷ cs) h = let w = both (is_plain c) (list_all is_plain cs) h in both_true (is_char c) (list_all is_char cs) (plain_is c w.0).0 (plain_chars cs w.1)
+plain_chars (c ∷ cs) h = let w = and_parts (is_plain c) (list_all is_plain cs) h in and_from (is_char c) (list_all is_char cs) (plain_is c w.0).0 (plain_chars cs w.1)
 
 plain_normal : (cs : List ℕ) → list_all is_plain cs ≡ true → normal false cs ≡ cs
 plain_normal [] h = refl
 plain_normal (c ∷ cs) h =
-    let w = both (is_plain c) (list_all is_plain cs) h in
+    let w = and_parts (is_plain c) (list_all is_plain cs) h in
     ap (λ b. cond b (10 ∷ normal true cs) (c ∷ normal false cs)) (plain_is c w.0).1 ∙ ap (λ (r : List ℕ). c ∷ r) (plain_normal cs w.1)
 
 pub plain_lines : (cs : List ℕ) → list_all is_plain cs ≡ true → lines (encode_utf8_all cs) ≡ cs
@@ -124,9 +124,9 @@ plain_encoded cs h = encoded_chars cs (plain_chars cs h)
 -- ---- tokens
 
 pub all_append : (p : Token → Bool) (xs ys : List Token) → list_all p xs ≡ true → list_all p ys ≡ true → list_all p (xs ++ ys) ≡ true
-all_append p xs ys h k = list_all-append p xs ys ∙ both_true _ _ h k
+all_append p xs ys h k = list_all-append p xs ys ∙ and_from _ _ h k
 
-spelled_append : (xs ys : List Token) → flat_map spelled (xs ++ ys) ≡ flat_map spelled xs ++ flat_map spelled ys
+pub spelled_append : (xs ys : List Token) → flat_map spelled (xs ++ ys) ≡ flat_map spelled xs ++ flat_map spelled ys
 spelled_append [] ys = refl
 spelled_append (x ∷ xs) ys = ap (λ (r : List ℕ). spelled x ++ r) (spelled_append xs ys) ∙ sym (append_assoc (spelled x) (flat_map spelled xs) (flat_map spelled ys))
 
@@ -172,7 +172,7 @@ no_literal c h (inr e) = let k : is_literal 38 ≡ true = subst (λ (n : ℕ). i
 
 pub run_ends : (ys : List Token) (b : ℕ) (r : List ℕ) → list_all is_token ys ≡ true → (b ≡ 60) ⊎ (b ≡ 38) → flat_map spelled ys ≡ b ∷ r → EndsRun ys
 run_ends [] b r each is e n = refl
-run_ends (Data (Literal c) ∷ ts) b r each is e n = absurd (no_literal c (both (is_literal c) (list_all is_token ts) each).0 (same is (first c b (flat_map spelled ts) r e)))
+run_ends (Data (Literal c) ∷ ts) b r each is e n = absurd (no_literal c (and_parts (is_literal c) (list_all is_token ts) each).0 (same is (first c b (flat_map spelled ts) r e)))
   where
     first : (c b : ℕ) (x y : List ℕ) → c ∷ x ≡ b ∷ y → c ≡ b
     first c b x y e = cc
@@ -211,7 +211,7 @@ part_join a b xs ys p q e u =
       encoded = t.encoded;
       each = all_append is_token xs ys p.each q.each;
       spelled_so = ap (λ (x : List ℕ). normal false x) t.chars_are ∙ normal_append false (chars a) (chars b) ∙ (λ i. p.spelled_so i ++ (e ∙ q.spelled_so) i) ∙ sym (spelled_append xs ys);
-      whole = unbroken_append 0 xs ys ∙ both_true _ _ p.whole (u ∙ q.whole);
+      whole = unbroken_append 0 xs ys ∙ and_from _ _ p.whole (u ∙ q.whole);
     }
 
 -- a part that ends with `>` and no square bracket
@@ -253,23 +253,23 @@ part_of ts each plain whole = record { encoded = plain_encoded (flat_map spelled
 pub part_of_one : (t : Token) → is_token t ≡ true → list_all is_plain (spelled t) ≡ true → unbroken 0 (t ∷ []) ≡ true → PartBy (encode_utf8_all (spelled t)) (t ∷ [])
 part_of_one t is plain whole =
     let e : spelled t ++ [] ≡ spelled t = append-nil (spelled t) in
-    subst (λ (x : List ℕ). PartBy (encode_utf8_all x) (t ∷ [])) e (part_of (t ∷ []) (both_true (is_token t) true is refl) (ap (λ (x : List ℕ). list_all is_plain x) e ∙ plain) whole)
+    subst (λ (x : List ℕ). PartBy (encode_utf8_all x) (t ∷ [])) e (part_of (t ∷ []) (and_from (is_token t) true is refl) (ap (λ (x : List ℕ). list_all is_plain x) e ∙ plain) whole)
 
 pub no_part : PartBy [] []
 no_part = part_of [] refl refl refl
 
 pub plain_append : (xs ys : List ℕ) → list_all is_plain xs ≡ true → list_all is_plain ys ≡ true → list_all is_plain (xs ++ ys) ≡ true
-plain_append xs ys h k = list_all-append is_plain xs ys ∙ both_true _ _ h k
+plain_append xs ys h k = list_all-append is_plain xs ys ∙ and_from _ _ h k
 
 pub plain_split : (xs ys : List ℕ) → list_all is_plain (xs ++ ys) ≡ true → (list_all is_plain xs ≡ true) × (list_all is_plain ys ≡ true)
-plain_split xs ys h = both _ _ (sym (list_all-append is_plain xs ys) ∙ h)
+plain_split xs ys h = and_parts _ _ (sym (list_all-append is_plain xs ys) ∙ h)
 
 name_char_plain : (c : ℕ) → is_name_char c ≡ true → is_plain c ≡ true
 name_char_plain c h = grind (arith, nat_tests)
 
 pub name_plain : (name : List ℕ) → list_all is_name_char name ≡ true → list_all is_plain name ≡ true
 name_plain [] h = refl
-name_plain (c ∷ cs) h = let w = both (is_name_char c) (list_all is_name_char cs) h in both_true (is_plain c) (list_all is_plain cs) (name_char_plain c w.0) (name_plain cs w.1)
+name_plain (c ∷ cs) h = let w = and_parts (is_name_char c) (list_all is_name_char cs) h in and_from (is_plain c) (list_all is_plain cs) (name_char_plain c w.0) (name_plain cs w.1)
 
 ending_plain : (e : Bool) → list_all is_plain (ending e) ≡ true
 ending_plain true = refl
@@ -315,11 +315,11 @@ no_squares n (t ∷ ts) h = absurd cc
 
 pub closed : (xs : List Token) (depth d n : ℕ) → closes depth xs ≡ true → Closed xs d n
 closed [] depth d n h = absurd cc
-closed (Data (Literal c) ∷ ts) depth d n h = more (Data (Literal c)) ts d n (closed ts depth _ _ (both (is_inside depth) _ h).1) refl
-closed (Data (Reference body) ∷ ts) depth d n h = more (Data (Reference body)) ts d n (closed ts depth _ _ (both (is_inside depth) _ h).1) refl
-closed (Section cs ∷ ts) depth d n h = more (Section cs) ts d n (closed ts depth _ _ (both (is_inside depth) _ h).1) refl
-closed (Comment cs ∷ ts) depth d n h = more (Comment cs) ts d n (closed ts depth _ _ (both (is_inside depth) _ h).1) refl
-closed (Instruction name cs ∷ ts) depth d n h = more (Instruction name cs) ts d n (closed ts depth _ _ (both (is_inside depth) _ h).1) refl
+closed (Data (Literal c) ∷ ts) depth d n h = more (Data (Literal c)) ts d n (closed ts depth _ _ (and_parts (is_inside depth) _ h).1) refl
+closed (Data (Reference body) ∷ ts) depth d n h = more (Data (Reference body)) ts d n (closed ts depth _ _ (and_parts (is_inside depth) _ h).1) refl
+closed (Section cs ∷ ts) depth d n h = more (Section cs) ts d n (closed ts depth _ _ (and_parts (is_inside depth) _ h).1) refl
+closed (Comment cs ∷ ts) depth d n h = more (Comment cs) ts d n (closed ts depth _ _ (and_parts (is_inside depth) _ h).1) refl
+closed (Instruction name cs ∷ ts) depth d n h = more (Instruction name cs) ts d n (closed ts depth _ _ (and_parts (is_inside depth) _ h).1) refl
 closed (Start false name ws gap ∷ ts) depth d n h = more (Start false name ws gap) ts d n (closed ts (suc depth) _ _ h) refl
 closed (Start true name ws gap ∷ ts) depth d n h =
     elim (is_inside depth) as (λ b. cond b (closes depth ts) (is_end ts) ≡ true → Closed (Start true name ws gap ∷ ts) d n) [
@@ -330,5 +330,5 @@ closed (Close name gap ∷ ts) depth d n h =
     elim (is_inside (fewer depth)) as (λ b. cond b (closes (fewer depth) ts) (is_end ts) ≡ true → Closed (Close name gap ∷ ts) d n) [
       | true ↦ λ k. more (Close name gap) ts d n (closed ts (fewer depth) _ _ k) refl
       | false ↦ λ k. record { last = last_of d (Close name gap) ts k (λ m. close_last m name gap); no_square = no_squares n ts k }
-    ] (both (is_inside depth) _ h).1
+    ] (and_parts (is_inside depth) _ h).1
 closed (Doctype gap name ext after ∷ ts) depth d n h = absurd cc

@@ -4,9 +4,10 @@ use Rattle.std.specs.List.{list_all}
 use Rattle.std.specs.Str.{IsUtf8, chars}
 use Rattle.std.proofs.lemmas.List.{take_at, drop_at}
 use Rattle.std.proofs.lemmas.List.Folds.{list_all-append}
+use Rattle.std.proofs.lemmas.Bool.{and_from}
 use Rattle.mm_xml.specs.Lexing.{span}
 use Rattle.mm_xml.specs.Passages.{is_ordinary}
-use Rattle.mm_xml.proofs.Spans.{Stops, both_true, span_again}
+use Rattle.mm_xml.proofs.Spans.{Stops, span_again}
 use Rattle.mm_xml.proofs.TextFacts.{Cut, cut}
 
 -- all characters before the rest are ordinary
@@ -22,7 +23,7 @@ pub one_more : (cs here rest : List ℕ) (c : ℕ) (b : Bool) → Behind cs here
 one_more cs here rest c b behind e is h = record {
   front = behind.front ++ c ∷ [];
   whole = behind.whole ∙ ap (λ (r : List ℕ). behind.front ++ r) e ∙ sym (append_assoc behind.front (c ∷ []) rest);
-  each = list_all-append is_ordinary behind.front (c ∷ []) ∙ both_true (list_all is_ordinary behind.front) (is_ordinary c && true) behind.each (both_true (is_ordinary c) true (sym is ∙ h) refl);
+  each = list_all-append is_ordinary behind.front (c ∷ []) ∙ and_from (list_all is_ordinary behind.front) (is_ordinary c && true) behind.each (and_from (is_ordinary c) true (sym is ∙ h) refl);
 }
 
 pub no_more : (rest : List ℕ) → rest ≡ [] → Stops is_ordinary rest

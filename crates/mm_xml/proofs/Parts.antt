@@ -1,12 +1,12 @@
 -- Characters and references are read as they are spelled.
 use Rattle.std.proofs.Common.{◌≡◌, ℕ, zero, suc, ◌≤◌, ◌<◌, Bool, true, false, cond, List, [], ◌∷◌, ◌++◌, length, Some, None, eqb, not, refl, sym, ap, subst, ◌∙◌, append_assoc, arith, inl, inr}
 use Rattle.std.specs.List.{list_all, flat_map}
-use Rattle.std.proofs.lemmas.Bool.{eqb-true}
+use Rattle.std.proofs.lemmas.Bool.{eqb-true, and_parts, and_from}
 use Rattle.std.proofs.lemmas.List.{length-append}
 use Rattle.mm_xml.specs.Letters.{referred}
 use Rattle.mm_xml.specs.Syntax.{Part, Literal, Reference, is_part, is_literal, is_within, is_quote, not_semicolon, is_some, spelled_part}
 use Rattle.mm_xml.specs.Lexing.{◌>>=◌, Found, span, after, reference_at, part_at, parts_at}
-use Rattle.mm_xml.proofs.Spans.{taken, chosen, some, some_is, bind_some, both, both_true, span_whole, span_all, span_again, after_takes}
+use Rattle.mm_xml.proofs.Spans.{taken, chosen, some, some_is, bind_some, span_whole, span_all, span_again, after_takes}
 
 pub record PartTakes (cs : List ℕ) (x : Part × List ℕ) : Type 0 where
   pub is : is_part x.0 ≡ true
@@ -19,7 +19,7 @@ reference_takes cs x e =
     let t = taken (is_some (referred body)) (after 59 (span not_semicolon cs).1 >>= λ r. Some (Reference body, r)) x e in
     let b = bind_some (after 59 (span not_semicolon cs).1) (λ r. Some (Reference body, r)) x t.1 in
     subst (λ (y : Part × List ℕ). PartTakes (38 ∷ cs) y) (some_is (Reference body, b.0) x b.2) (record {
-      is = both_true _ _ (span_all not_semicolon cs) t.0;
+      is = and_from _ _ (span_all not_semicolon cs) t.0;
       parts = ap (λ (y : List ℕ). 38 ∷ y) (sym (span_whole not_semicolon cs) ∙ ap (λ (y : List ℕ). body ++ y) (after_takes 59 (span not_semicolon cs).1 b.0 b.1) ∙ sym (append_assoc body (59 ∷ []) b.0));
     })
 
@@ -47,18 +47,18 @@ part_again (Literal c) rest h =
     ap (λ b. cond b (reference_at rest) (cond (is_literal c) (Some (Literal c, rest)) no_part)) (not_amp c h)
     ∙ ap (λ b. cond b (some (Literal c, rest)) no_part) h
 part_again (Reference body) rest h =
-    let w = both (list_all not_semicolon body) (is_some (referred body)) h in
+    let w = and_parts (list_all not_semicolon body) (is_some (referred body)) h in
     ap (λ (cs : List ℕ). reference_at cs) (append_assoc body (59 ∷ []) rest)
     ∙ ap (λ (y : List ℕ × List ℕ). cond (is_some (referred y.0)) (after 59 y.1 >>= λ r. some (Reference y.0, r)) no_part) (span_again not_semicolon body (59 ∷ rest) w.0 refl)
     ∙ rw w.1 refl
 
 within_part : (q : ℕ) (p : Part) → is_within q p ≡ true → is_part p ≡ true
-within_part q (Literal c) h = (both (is_literal c) (not (eqb c q)) h).0
+within_part q (Literal c) h = (and_parts (is_literal c) (not (eqb c q)) h).0
 within_part q (Reference body) h = h
 
 -- a part doesn't begin with the quote
 within_first : (q : ℕ) (p : Part) → is_quote q ≡ true → is_within q p ≡ true → (c : ℕ) × (cs : List ℕ) × (spelled_part p ≡ c ∷ cs) × (eqb c q ≡ false)
-within_first q (Literal c) qu h = (c, [], refl, negated _ (both (is_literal c) (not (eqb c q)) h).1)
+within_first q (Literal c) qu h = (c, [], refl, negated _ (and_parts (is_literal c) (not (eqb c q)) h).1)
   where
     negated : (b : Bool) → not b ≡ true → b ≡ false
     negated true e = absurd cc
@@ -73,7 +73,7 @@ pub record PartsTake (q : ℕ) (cs : List ℕ) (x : List Part × List ℕ) : Typ
   pub parts : cs ≡ flat_map spelled_part x.0 ++ (q ∷ x.1)
 
 part_within : (q c : ℕ) (cs : List ℕ) (x : Part × List ℕ) → eqb c q ≡ false → PartTakes (c ∷ cs) x → is_within q x.0 ≡ true
-part_within q c cs (Literal d, r) n t = both_true _ _ t.is (negate (eqb d q) (ap (λ k. eqb k q) (heads d c r cs (sym t.parts)) ∙ n))
+part_within q c cs (Literal d, r) n t = and_from _ _ t.is (negate (eqb d q) (ap (λ k. eqb k q) (heads d c r cs (sym t.parts)) ∙ n))
   where
     negate : (b : Bool) → b ≡ false → not b ≡ true
     negate b e = rw e refl
@@ -95,7 +95,7 @@ parts_take (suc n) q (c ∷ cs) x e =
           let t = part_takes (c ∷ cs) a.0 a.1 in
           let m = parts_take n q a.0.1 b.0 b.1 in
           subst (λ (y : List Part × List ℕ). PartsTake q (c ∷ cs) y) (some_is _ x b.2) (record {
-            each = both_true _ _ (part_within q c cs a.0 w.0 t) m.each;
+            each = and_from _ _ (part_within q c cs a.0 w.0 t) m.each;
             parts = t.parts ∙ ap (λ (y : List ℕ). spelled_part a.0.0 ++ y) m.parts ∙ sym (append_assoc (spelled_part a.0.0) (flat_map spelled_part b.0.0) (q ∷ b.0.1));
           })
     ]
@@ -116,7 +116,7 @@ parts_again (suc n) q [] rest qu each lt = rw (itself q) refl
     itself : (k : ℕ) → eqb k k ≡ true
     itself k = grind arith
 parts_again (suc n) q (p ∷ ps) rest qu each lt =
-    let w = both (is_within q p) (list_all (is_within q) ps) each in
+    let w = and_parts (is_within q p) (list_all (is_within q) ps) each in
     let f = within_first q p qu w.0 in
     let tail = flat_map spelled_part ps ++ (q ∷ rest) in
     ap (λ (y : List ℕ). parts_at (suc n) q y) (append_assoc (spelled_part p) (flat_map spelled_part ps) (q ∷ rest))

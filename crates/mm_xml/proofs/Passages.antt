@@ -2,13 +2,14 @@
 use Rattle.std.proofs.Common.{◌≡◌, ℕ, zero, suc, ◌+◌, ◌<◌, ◌≤◌, Bool, true, false, cond, ◌&&◌, not, List, [], ◌∷◌, ◌++◌, length, Some, None, inl, inr, eqb, refl, sym, ap, ◌∙◌, append_assoc, arith}
 use Rattle.std.specs.List.{list_all}
 use Rattle.std.proofs.lemmas.List.{append-nil, length-append}
+use Rattle.std.proofs.lemmas.Bool.{and_parts}
 use Rattle.mm_xml.specs.Syntax.{is_literal, Literal, Data}
 use Rattle.mm_xml.specs.Grammar.{is_inside}
 use Rattle.mm_xml.specs.Lexing.{◌>>=◌, Found, span, token_at}
 use Rattle.mm_xml.specs.Telling.{Sign, Character, Passage, told, sign_at}
 use Rattle.mm_xml.specs.Passages.{is_ordinary, passage_at}
 use Rattle.mm_xml.specs.Machine.{State, Order, cut, sign_may, sign_next, read_from}
-use Rattle.mm_xml.proofs.Spans.{some, some_is, no, both, chosen, bind_some, span_all, span_whole}
+use Rattle.mm_xml.proofs.Spans.{some, some_is, no, chosen, bind_some, span_all, span_whole}
 use Rattle.mm_xml.proofs.Content.{token_again}
 use Rattle.mm_xml.proofs.Enough.{read_enough, token_shorter}
 use Rattle.mm_xml.proofs.OutlineFacts.{on_state}
@@ -24,8 +25,8 @@ pub record Ordinary (c : ℕ) : Type 0 where
 
 pub ordinary : (c : ℕ) → is_ordinary c ≡ true → Ordinary c
 ordinary c h =
-    let w = both (is_literal c) (not (eqb c 62) && not (eqb c 93)) h in
-    let v = both (not (eqb c 62)) (not (eqb c 93)) w.1 in
+    let w = and_parts (is_literal c) (not (eqb c 62) && not (eqb c 93)) h in
+    let v = and_parts (not (eqb c 62)) (not (eqb c 93)) w.1 in
     record { literal = w.0; no_greater = negated (eqb c 62) v.0; no_square = negated (eqb c 93) v.1 }
 
 -- an ordinary character stands for itself
@@ -51,7 +52,7 @@ all_steps : (xs rest : List ℕ) (n m : ℕ) (s : State) (run : List ℕ) (order
 all_steps [] rest n m s run order each inside enough few = read_enough n m s run (cut order) rest enough few ∙ ap (λ (r : List ℕ). read_from m s r (cut order) rest) (sym (append-nil run))
 all_steps (x ∷ xs) rest zero m s run order each inside enough few = absurd (omega (arith, enough))
 all_steps (x ∷ xs) rest (suc n) m s run order each inside enough few =
-    let w = both (is_ordinary x) (list_all is_ordinary xs) each in
+    let w = and_parts (is_ordinary x) (list_all is_ordinary xs) each in
     one_step n s run (cut order) x (xs ++ rest) w.0 inside
     ∙ all_steps xs rest n m s (run ++ x ∷ []) order w.1 inside (omega (arith, enough)) few
     ∙ ap (λ (r : List ℕ). read_from m s r (cut order) rest) (append_assoc run (x ∷ []) xs)
@@ -60,7 +61,7 @@ passage_read : (xs rest : List ℕ) (m : ℕ) (s : State) (run : List ℕ) (orde
     → read_from (suc m) s run order (xs ++ rest) ≡ on_state m s run order (Passage xs, rest)
 passage_read [] rest m s run order each filled inside enough = absurd cc
 passage_read (x ∷ xs) rest m s run order each filled inside enough =
-    let w = both (is_ordinary x) (list_all is_ordinary xs) each in
+    let w = and_parts (is_ordinary x) (list_all is_ordinary xs) each in
     one_step m s run order x (xs ++ rest) w.0 inside
     ∙ all_steps xs rest m m s (run ++ x ∷ []) order w.1 inside (omega (arith, enough)) (omega (arith, enough, length-append xs rest))
     ∙ ap (λ (r : List ℕ). read_from m s r (cut order) rest) (append_assoc run (x ∷ []) xs)
@@ -80,7 +81,7 @@ passage_is m s run order c cs enough =
     let whole : xs ++ rest ≡ c ∷ cs = span_whole is_ordinary (c ∷ cs) in
     elim (is_inside order.depth && not (eqb (length xs) 0)) as (λ b. (is_inside order.depth && not (eqb (length xs) 0)) ≡ b → read_from (suc m) s run order (c ∷ cs) ≡ (cond b (some (Passage xs, rest)) (sign_at (c ∷ cs)) >>= λ x. on_state m s run order x)) [
       | true ↦ λ e.
-          let w = both (is_inside order.depth) (not (eqb (length xs) 0)) e in
+          let w = and_parts (is_inside order.depth) (not (eqb (length xs) 0)) e in
           ap (λ (r : List ℕ). read_from (suc m) s run order r) (sym whole) ∙ passage_read xs rest m s run order (span_all is_ordinary (c ∷ cs)) w.1 w.0 (omega (arith, enough, ap length whole))
       | false ↦ λ e. refl
     ] refl
@@ -103,7 +104,7 @@ passage_shorter inside cs sign behind e =
     let rest = (span is_ordinary cs).1 in
     elim (chosen (inside && not (eqb (length xs) 0)) (some (Passage xs, rest)) (sign_at cs) (Some (sign, behind)) e) [
       | inl w ↦
-          let v = both inside (not (eqb (length xs) 0)) w.0 in
+          let v = and_parts inside (not (eqb (length xs) 0)) w.0 in
           let same : rest ≡ behind = ap (λ (y : Sign × List ℕ). y.1) (some_is (Passage xs, rest) (sign, behind) w.1) in
           omega (arith, ap length same, ap length (span_whole is_ordinary cs), length-append xs rest, filled xs v.1)
       | inr w ↦ sign_shorter cs sign behind w.1

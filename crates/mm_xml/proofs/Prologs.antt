@@ -1,9 +1,9 @@
 -- What stands before and behind the element.
-use Rattle.std.proofs.Common.{◌≡◌, ℕ, ◌+◌, Bool, true, false, cond, not, List, [], ◌∷◌, ◌++◌, None, eqb, refl, sym, ap, subst, ◌∙◌, inl}
+use Rattle.std.proofs.Common.{◌≡◌, ℕ, ◌+◌, Bool, true, false, cond, not, List, [], ◌∷◌, ◌++◌, None, eqb, refl, sym, ap, subst, ◌∙◌, inl, append-nil}
 use Rattle.std.specs.Prelude.{IsTrue}
 use Rattle.std.specs.List.{list_all}
 use Rattle.std.specs.Str.{chars, encode_utf8_all}
-use Rattle.std.proofs.lemmas.Bool.{eqb-true}
+use Rattle.std.proofs.lemmas.Bool.{eqb-true, and_parts, and_from}
 use Rattle.std.proofs.lemmas.List.{append-nil}
 use Rattle.mm_tree.specs.declared.Kind.{Kind}
 use Rattle.mm_tree.specs.Trees.{Tree}
@@ -11,7 +11,6 @@ use Rattle.mm_tree.specs.Characters.{is_char, is_space}
 use Rattle.mm_xml.specs.Syntax.{Literal, Reference, External, Token, Data, Section, Comment, Instruction, Start, Close, Doctype, is_token, spelled}
 use Rattle.mm_xml.specs.Grammar.{unbroken, normal}
 use Rattle.mm_xml.specs.Productions.{is_plain, PartBy, is_misc, SpellsMisc, is_prolog, SpellsProlog, SpellsElement, SpellsDocument}
-use Rattle.mm_xml.proofs.Spans.{both, both_true}
 use Rattle.mm_xml.proofs.Forms.{document}
 use Rattle.mm_xml.proofs.Joins.{together, plain_encoded, part_join, join_markup, no_part, part_of_one, plain_same, returned, squares}
 
@@ -19,8 +18,8 @@ use Rattle.mm_xml.proofs.Joins.{together, plain_encoded, part_join, join_markup,
 plain_returned : (cs : List ℕ) → list_all is_plain cs ≡ true → returned false cs ≡ false
 plain_returned [] h = refl
 plain_returned (c ∷ cs) h =
-    let w = both (is_plain c) (list_all is_plain cs) h in
-    ap (λ b. returned b cs) (negated (eqb c 13) (both (is_char c) (not (eqb c 13)) w.0).1) ∙ plain_returned cs w.1
+    let w = and_parts (is_plain c) (list_all is_plain cs) h in
+    ap (λ b. returned b cs) (negated (eqb c 13) (and_parts (is_char c) (not (eqb c 13)) w.0).1) ∙ plain_returned cs w.1
   where
     negated : (b : Bool) → not b ≡ true → b ≡ false
     negated true e = absurd cc
@@ -63,11 +62,11 @@ pub no_misc : SpellsMisc []
 no_misc = ([], no_part, refl)
 
 pub misc : (t : Token) (bytes : List ℕ) → IsTrue (is_misc t) → IsTrue (is_token t) → IsTrue (list_all is_plain (spelled t)) → SpellsMisc bytes → SpellsMisc (encode_utf8_all (spelled t) ++ bytes)
-misc t bytes m is plain s = (t ∷ s.0, token_join t bytes s.0 is plain (misc_whole t m) (misc_square t m) s.1, both_true (is_misc t) (list_all is_misc s.0) m s.2)
+misc t bytes m is plain s = (t ∷ s.0, token_join t bytes s.0 is plain (misc_whole t m) (misc_square t m) s.1, and_from (is_misc t) (list_all is_misc s.0) m s.2)
 
 misc_first : (ms zs : List Token) (may : Bool) → list_all is_misc ms ≡ true → is_prolog may zs ≡ true → is_prolog may (ms ++ zs) ≡ true
 misc_first [] zs may h k = k
-misc_first (Data (Literal c) ∷ ms) zs may h k = let w = both (is_space c) (list_all is_misc ms) h in both_true (is_space c) (is_prolog may (ms ++ zs)) w.0 (misc_first ms zs may w.1 k)
+misc_first (Data (Literal c) ∷ ms) zs may h k = let w = and_parts (is_space c) (list_all is_misc ms) h in and_from (is_space c) (is_prolog may (ms ++ zs)) w.0 (misc_first ms zs may w.1 k)
 misc_first (Data (Reference body) ∷ ms) zs may h k = absurd cc
 misc_first (Section cs ∷ ms) zs may h k = absurd cc
 misc_first (Comment cs ∷ ms) zs may h k = misc_first ms zs may h k
@@ -76,12 +75,8 @@ misc_first (Start empty name ws gap ∷ ms) zs may h k = absurd cc
 misc_first (Close name gap ∷ ms) zs may h k = absurd cc
 misc_first (Doctype gap name ext after ∷ ms) zs may h k = absurd cc
 
-nothing_more : (ms : List Token) → ms ++ [] ≡ ms
-nothing_more [] = refl
-nothing_more (m ∷ ms) = ap (λ (xs : List Token). m ∷ xs) (nothing_more ms)
-
 misc_alone : (ms : List Token) (may : Bool) → list_all is_misc ms ≡ true → is_prolog may ms ≡ true
-misc_alone ms may h = ap (λ (xs : List Token). is_prolog may xs) (sym (nothing_more ms)) ∙ misc_first ms [] may h refl
+misc_alone ms may h = ap (λ (xs : List Token). is_prolog may xs) (sym (append-nil ms)) ∙ misc_first ms [] may h refl
 
 pub misc_prolog : (bytes : List ℕ) → SpellsMisc bytes → SpellsProlog bytes
 misc_prolog bytes s = (s.0, s.1, misc_alone s.0 true s.2)

@@ -3,16 +3,14 @@ use Rattle.std.proofs.Common.{◌≡◌, ℕ, zero, suc, ◌+◌, true, false, c
 use Rattle.std.specs.Prelude.{IsTrue}
 use Rattle.std.specs.List.{flat_map, list_all}
 use Rattle.std.specs.Str.{chars, encode_utf8_all}
-use Rattle.std.proofs.lemmas.Bool.{eqb-true}
+use Rattle.std.proofs.lemmas.Bool.{eqb-true, and_parts, and_from, or_cases}
 use Rattle.std.proofs.lemmas.List.{append-nil}
 use Rattle.mm_tree.specs.Characters.{is_name}
 use Rattle.mm_xml.specs.Letters.{referred, is_free}
 use Rattle.mm_xml.specs.Syntax.{Literal, Reference, is_literal, not_semicolon, is_some, named, Token, Data, Section, Comment, Instruction, Start, Close, Doctype, is_token, spelled}
 use Rattle.mm_xml.specs.Grammar.{unbroken, is_textual, normal}
 use Rattle.mm_xml.specs.Productions.{is_plain, lines, PartBy, text_of, SpellsRun, ends_run, ends_markup}
-use Rattle.mm_xml.proofs.Spans.{both, both_true}
 use Rattle.mm_xml.proofs.Attributes.{name_chars}
-use Rattle.mm_xml.proofs.Whole.{either_true}
 use Rattle.mm_xml.proofs.Joins.{all_append, part_join, join_markup, join_nothing, part_of, part_of_one, no_part, plain_append, name_plain, no_return, last_or, last_append, squares}
 
 -- ---- nothing
@@ -36,7 +34,7 @@ literals_text (c ∷ cs) = ap (λ (x : List ℕ). c ∷ x) (literals_text cs)
 
 literals_each : (cs : List ℕ) → list_all is_literal cs ≡ true → list_all is_token (literals cs) ≡ true
 literals_each [] h = refl
-literals_each (c ∷ cs) h = let w = both (is_literal c) (list_all is_literal cs) h in both_true (is_literal c) _ w.0 (literals_each cs w.1)
+literals_each (c ∷ cs) h = let w = and_parts (is_literal c) (list_all is_literal cs) h in and_from (is_literal c) _ w.0 (literals_each cs w.1)
 
 literals_textual : (cs : List ℕ) → list_all is_textual (literals cs) ≡ true
 literals_textual [] = refl
@@ -62,7 +60,7 @@ more_squares n cs = one_square n cs ∙ ap (λ m. behind_squares m cs) (one_more
 
 free_tail : (n : ℕ) (cs : List ℕ) → is_free close_mark (behind_squares n cs) ≡ true → is_free close_mark cs ≡ true
 free_tail zero cs h = h
-free_tail (suc n) cs h = free_tail n cs (both _ (is_free close_mark (behind_squares n cs)) h).1
+free_tail (suc n) cs h = free_tail n cs (and_parts _ (is_free close_mark (behind_squares n cs)) h).1
 
 no_close : (n : ℕ) (cs : List ℕ) → is_free close_mark (behind_squares (suc (suc n)) (62 ∷ cs)) ≡ true → ⊥
 no_close zero cs h = cc
@@ -83,7 +81,7 @@ literals_whole : (n : ℕ) (cs : List ℕ) → is_free close_mark (behind_square
 literals_whole n [] h = refl
 literals_whole n (c ∷ cs) h = elim (eqb c 93) as (λ b. eqb c 93 ≡ b → cond b (unbroken (n + 1) (literals cs)) (not (eqb c 62 && leb 2 n) && unbroken 0 (literals cs)) ≡ true) [
   | true ↦ λ e. literals_whole (n + 1) cs (ap (λ (x : List ℕ). is_free close_mark x) (sym (more_squares n cs)) ∙ ap (λ m. is_free close_mark (behind_squares n (m ∷ cs))) (sym (eqb-true c 93 e)) ∙ h)
-  | false ↦ λ e. both_true _ _ (not_closed n c cs h) (literals_whole 0 cs (both _ (is_free close_mark cs) (free_tail n (c ∷ cs) h)).1)
+  | false ↦ λ e. and_from _ _ (not_closed n c cs h) (literals_whole 0 cs (and_parts _ (is_free close_mark cs) (free_tail n (c ∷ cs) h)).1)
 ] refl
 
 pub char_data : (text : List ℕ) → IsTrue (list_all is_plain text) → IsTrue (list_all is_literal text) → IsTrue (is_free (93 ∷ 93 ∷ 62 ∷ []) text) → SpellsRun (encode_utf8_all text) text
@@ -97,7 +95,7 @@ char_data text plain each free =
 pub reference : (body : List ℕ) (c : ℕ) → IsTrue (list_all is_plain body) → IsTrue (list_all not_semicolon body) → referred body ≡ Some c → SpellsRun (encode_utf8_all (38 ∷ (body ++ 59 ∷ []))) (c ∷ [])
 reference body c plain free e = (
   Data (Reference body) ∷ [],
-  part_of_one (Data (Reference body)) (both_true _ _ free (ap is_some e)) (plain_append body (59 ∷ []) plain refl) refl,
+  part_of_one (Data (Reference body)) (and_from _ _ free (ap is_some e)) (plain_append body (59 ∷ []) plain refl) refl,
   refl,
   ap (λ o. named o ++ []) e,
 )
@@ -109,7 +107,7 @@ pub comment : (cs : List ℕ) → IsTrue (is_token (Comment cs)) → IsTrue (lis
 comment cs is plain = (Comment cs ∷ [], part_of_one (Comment cs) is (plain_append cs (45 ∷ 45 ∷ 62 ∷ []) plain refl) refl, refl, refl)
 
 pub instruction : (name cs : List ℕ) → IsTrue (is_token (Instruction name cs)) → IsTrue (list_all is_plain cs) → SpellsRun (encode_utf8_all (spelled (Instruction name cs))) []
-instruction name cs is plain = (Instruction name cs ∷ [], part_of_one (Instruction name cs) is (plain_append name _ (name_plain name (name_chars name (both (is_name name) _ is).0)) (plain_append cs (63 ∷ 62 ∷ []) plain refl)) refl, refl, refl)
+instruction name cs is plain = (Instruction name cs ∷ [], part_of_one (Instruction name cs) is (plain_append name _ (name_plain name (name_chars name (and_parts (is_name name) _ is).0)) (plain_append cs (63 ∷ 62 ∷ []) plain refl)) refl, refl, refl)
 
 -- ---- one behind the other
 
@@ -132,7 +130,7 @@ last_square (Doctype gap name ext after ∷ ts) d n h e = last_square ts (last_o
 -- `>` or `;` comes last
 markup_last : (cs : List ℕ) (d : ℕ) → ends_markup cs ≡ true → (last_or d cs ≡ 62) ⊎ (last_or d cs ≡ 59)
 markup_last [] d h = absurd cc
-markup_last (c ∷ []) d h = elim (either_true (eqb c 62) (eqb c 59) h) [ inl e ↦ inl (eqb-true c 62 e) | inr e ↦ inr (eqb-true c 59 e) ]
+markup_last (c ∷ []) d h = elim (or_cases (eqb c 62) (eqb c 59) h) [ inl e ↦ inl (eqb-true c 62 e) | inr e ↦ inr (eqb-true c 59 e) ]
 markup_last (c ∷ e ∷ cs) d h = markup_last (e ∷ cs) c h
 
 -- a run that ends there
@@ -151,7 +149,7 @@ meeting b h = from (chars b) refl h
     from (c ∷ cs) e h = Markup c cs e (mark c h)
 
 pub joined_text : (a b text more : List ℕ) → SpellsRun a text → SpellsRun b more → IsTrue (ends_run (chars b) || ends_markup (lines a)) → SpellsRun (a ++ b) (text ++ more)
-joined_text a b text more s u h = elim (either_true (ends_run (chars b)) (ends_markup (lines a)) h) [
+joined_text a b text more s u h = elim (or_cases (ends_run (chars b)) (ends_markup (lines a)) h) [
   | inl k ↦ elim (meeting b k) [
     | Nothing e ↦ joined (join_nothing a b s.0 u.0 s.1 u.1 e)
     | Markup k r e m ↦ joined (join_markup a b s.0 u.0 s.1 u.1 (k, r, e, m))

@@ -1,7 +1,7 @@
 -- What stands at the front, and how far.
 use Rattle.std.proofs.Common.{◌≡◌, ℕ, suc, ◌+◌, ◌≤◌, Bool, true, false, cond, ◌&&◌, List, [], ◌∷◌, ◌++◌, length, take, drop, Option, Some, None, eqb, not, refl, sym, ap, subst, ◌∙◌, append_assoc, arith, ◌⊎◌, inl, inr}
 use Rattle.std.specs.List.{list_all, prefix_len}
-use Rattle.std.proofs.lemmas.Bool.{eqb-true}
+use Rattle.std.proofs.lemmas.Bool.{eqb-true, and_parts, and_from}
 use Rattle.std.proofs.lemmas.List.{take-append-drop, take_at, drop_at, length-append}
 use Rattle.mm_xml.specs.Letters.{starts, is_free}
 use Rattle.mm_xml.specs.Lexing.{◌>>=◌, span, up_to, after}
@@ -27,13 +27,6 @@ pub bind_some : {A B : Type 0} (o : Option A) (f : A → Option B) (y : B) → (
 bind_some None f y e = absurd cc
 bind_some (Some x) f y e = (x, refl, e)
 
-pub both : (a b : Bool) → (a && b) ≡ true → (a ≡ true) × (b ≡ true)
-both true b e = (refl, e)
-both false b e = absurd cc
-
-pub both_true : (a b : Bool) → a ≡ true → b ≡ true → (a && b) ≡ true
-both_true a b e f = rw (e, f) refl
-
 -- ---- span
 
 abbrev pub Stops : (ℕ → Bool) → List ℕ → Type 0
@@ -48,13 +41,13 @@ one_more n = omega arith
 
 pub span_all : (p : ℕ → Bool) (cs : List ℕ) → list_all p (span p cs).0 ≡ true
 span_all p [] = refl
-span_all p (c ∷ cs) = elim (p c) as (λ b. p c ≡ b → list_all p (span p (c ∷ cs)).0 ≡ true) [ true ↦ λ e. ap (λ n. list_all p (take n (c ∷ cs))) (ap (λ b. cond b (1 + prefix_len p cs) 0) e ∙ one_more (prefix_len p cs)) ∙ both_true (p c) _ e (span_all p cs) | false ↦ λ e. ap (λ n. list_all p (take n (c ∷ cs))) (ap (λ b. cond b (1 + prefix_len p cs) 0) e) ] refl
+span_all p (c ∷ cs) = elim (p c) as (λ b. p c ≡ b → list_all p (span p (c ∷ cs)).0 ≡ true) [ true ↦ λ e. ap (λ n. list_all p (take n (c ∷ cs))) (ap (λ b. cond b (1 + prefix_len p cs) 0) e ∙ one_more (prefix_len p cs)) ∙ and_from (p c) _ e (span_all p cs) | false ↦ λ e. ap (λ n. list_all p (take n (c ∷ cs))) (ap (λ b. cond b (1 + prefix_len p cs) 0) e) ] refl
 
 span_len : (p : ℕ → Bool) (xs rest : List ℕ) → list_all p xs ≡ true → Stops p rest → prefix_len p (xs ++ rest) ≡ length xs
 span_len p [] [] h stop = refl
 span_len p [] (c ∷ cs) h stop = rw stop refl
 span_len p (x ∷ xs) rest h stop =
-    let w = both (p x) (list_all p xs) h in
+    let w = and_parts (p x) (list_all p xs) h in
     rw (w.0, span_len p xs rest w.1 stop) (omega arith)
 
 pub span_again : (p : ℕ → Bool) (xs rest : List ℕ) → list_all p xs ≡ true → Stops p rest → span p (xs ++ rest) ≡ (xs, rest)
@@ -77,7 +70,7 @@ pub starts_takes : (pat cs : List ℕ) → starts pat cs ≡ true → cs ≡ pat
 starts_takes [] cs h = refl
 starts_takes (p ∷ ps) [] h = absurd cc
 starts_takes (p ∷ ps) (c ∷ cs) h =
-    let w = both (eqb p c) (starts ps cs) h in
+    let w = and_parts (eqb p c) (starts ps cs) h in
     rw (eqb-true p c w.0) (ap (λ (y : List ℕ). c ∷ y) (starts_takes ps cs w.1))
 
 pub starts_itself : (pat rest : List ℕ) → starts pat (pat ++ rest) ≡ true
@@ -110,7 +103,7 @@ up_to_again pat [] rest p ps is h = at_once pat p ps rest is
     at_once [] p ps rest is = absurd cc
     at_once (q ∷ qs) p ps rest is = rw (starts_itself (q ∷ qs) rest, drop_at (q ∷ qs) rest (length (q ∷ qs)) refl) refl
 up_to_again pat (c ∷ cs) rest p ps is h =
-    let w = both (not (starts pat (c ∷ (cs ++ pat)))) (is_free pat cs) h in
+    let w = and_parts (not (starts pat (c ∷ (cs ++ pat)))) (is_free pat cs) h in
     let here : starts pat (c ∷ (cs ++ (pat ++ rest))) ≡ false = ap (λ (y : List ℕ). starts pat (c ∷ y)) (sym (append_assoc cs pat rest)) ∙ starts_short pat (c ∷ (cs ++ pat)) rest (omega (arith, length-append cs pat)) ∙ negated _ w.0 in
     rw (here, up_to_again pat cs rest p ps is w.1) refl
   where

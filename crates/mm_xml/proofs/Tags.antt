@@ -2,13 +2,13 @@
 use Rattle.std.proofs.Common.{◌≡◌, ℕ, Bool, true, false, cond, ◌&&◌, List, [], ◌∷◌, ◌++◌, length, Some, None, eqb, not, refl, sym, ap, subst, ◌∙◌, append_assoc, arith, inl, inr}
 use Rattle.std.specs.Prelude.{map}
 use Rattle.std.specs.List.{list_all, flat_map}
-use Rattle.std.proofs.lemmas.Bool.{eqb-true}
+use Rattle.std.proofs.lemmas.Bool.{eqb-true, and_parts, and_from}
 use Rattle.std.proofs.lemmas.List.{length-append}
 use Rattle.mm_tree.specs.Characters.{is_char, is_space, is_name_char, is_name, is_short_name}
 use Rattle.mm_xml.specs.Letters.{is_gap, is_free}
 use Rattle.mm_xml.specs.Syntax.{Written, is_written, spelled_written, differ, attribute_of, ending, Token, Section, Comment, Instruction, Start, is_token, spelled, is_rest, is_reserved}
 use Rattle.mm_xml.specs.Lexing.{◌>>=◌, Found, span, up_to, after, ending_at, starts_name, attributes_at, start_end_at, start_at, comment_at, section_at, instruction_at}
-use Rattle.mm_xml.proofs.Spans.{taken, chosen, some, no, some_is, bind_some, both, both_true, span_whole, span_all, span_again, after_takes, Stops, up_to_takes, up_to_again}
+use Rattle.mm_xml.proofs.Spans.{taken, chosen, some, no, some_is, bind_some, span_whole, span_all, span_again, after_takes, Stops, up_to_takes, up_to_again}
 use Rattle.mm_xml.proofs.Attributes.{attributes_take, attributes_again, attributes_len, short_chars, space_no_name, name_chars, not_space_stops}
 
 -- what is read is a token that is spelled so
@@ -44,7 +44,7 @@ start_takes cs x e =
     let d = taken (differ (map attribute_of ws)) (ending_at (span is_space rest).1 >>= λ x. Some (Start x.0 name ws gap, x.1)) x a.2 in
     let b = bind_some (ending_at (span is_space rest).1) (λ x. Some (Start x.0 name ws gap, x.1)) x d.1 in
     subst (λ (y : Token × List ℕ). Takes (60 ∷ cs) y) (some_is _ x b.2) (record {
-      is = both_true _ _ t.0 (both_true _ _ f.each (both_true _ _ d.0 (span_all is_space rest)));
+      is = and_from _ _ t.0 (and_from _ _ f.each (and_from _ _ d.0 (span_all is_space rest)));
       parts = ap (λ (y : List ℕ). 60 ∷ y) (sym (span_whole is_name_char cs)
           ∙ ap (λ (y : List ℕ). name ++ y) (f.parts ∙ ap (λ (y : List ℕ). flat_map spelled_written ws ++ y) (sym (span_whole is_space rest) ∙ ap (λ (y : List ℕ). gap ++ y) (ending_takes (span is_space rest).1 b.0 b.1)))
           ∙ start_group name (flat_map spelled_written ws) gap (ending b.0.0) b.0.1);
@@ -69,11 +69,11 @@ gap_stops gap false rest h = not_space_stops is_name_char gap 62 rest space_no_n
 
 written_stops : (ws : List Written) (tail : List ℕ) → list_all is_written ws ≡ true → Stops is_name_char tail → Stops is_name_char (flat_map spelled_written ws ++ tail)
 written_stops [] tail each stop = stop
-written_stops (w ∷ ws) tail each stop = first w.gap _ (flat_map spelled_written ws) tail (both (is_gap w.gap) _ (both (is_written w) (list_all is_written ws) each).0).0
+written_stops (w ∷ ws) tail each stop = first w.gap _ (flat_map spelled_written ws) tail (and_parts (is_gap w.gap) _ (and_parts (is_written w) (list_all is_written ws) each).0).0
   where
     first : (g x more tail : List ℕ) → is_gap g ≡ true → Stops is_name_char (((g ++ x) ++ more) ++ tail)
     first [] x more tail h = absurd cc
-    first (g ∷ gs) x more tail h = space_no_name g (both (is_space g) (list_all is_space gs) h).0
+    first (g ∷ gs) x more tail h = space_no_name g (and_parts (is_space g) (list_all is_space gs) h).0
 
 abbrev start_rest : List ℕ × List ℕ → Found Token
 start_rest y = cond (is_short_name y.0) (attributes_at (length y.1) y.1 >>= λ z. start_end_at y.0 z.0 z.1) None
@@ -85,9 +85,9 @@ pub start_again : (e : Bool) (name : List ℕ) (ws : List Written) (gap rest : L
     → start_at ((name ++ (flat_map spelled_written ws ++ (gap ++ ending e))) ++ rest) ≡ Some (Start e name ws gap, rest)
 unfolding start_at
 start_again e name ws gap rest h =
-    let n = both (is_short_name name) _ h in
-    let a = both (list_all is_written ws) _ n.1 in
-    let d = both (differ (map attribute_of ws)) (list_all is_space gap) a.1 in
+    let n = and_parts (is_short_name name) _ h in
+    let a = and_parts (list_all is_written ws) _ n.1 in
+    let d = and_parts (differ (map attribute_of ws)) (list_all is_space gap) a.1 in
     let tail = gap ++ (ending e ++ rest) in
     let more = flat_map spelled_written ws ++ tail in
     let closing : span is_space tail ≡ (gap, ending e ++ rest) = span_again is_space gap (ending e ++ rest) d.1 (ending_stops e rest) in
@@ -110,14 +110,14 @@ comment_takes cs x e =
     let t = taken (list_all is_char a.0.0) (after 62 a.0.1 >>= λ r. Some (Comment a.0.0, r)) x a.2 in
     let b = bind_some (after 62 a.0.1) (λ r. Some (Comment a.0.0, r)) x t.1 in
     subst (λ (y : Token × List ℕ). Takes (60 ∷ 33 ∷ 45 ∷ 45 ∷ cs) y) (some_is _ x b.2) (record {
-      is = both_true _ _ t.0 u.free;
+      is = and_from _ _ t.0 u.free;
       parts = ap (λ (y : List ℕ). 60 ∷ 33 ∷ 45 ∷ 45 ∷ y) (u.parts ∙ ap (λ (y : List ℕ). a.0.0 ++ (45 ∷ 45 ∷ y)) (after_takes 62 a.0.1 b.0 b.1) ∙ sym (append_assoc a.0.0 (45 ∷ 45 ∷ 62 ∷ []) b.0));
     })
 
 pub comment_again : (body rest : List ℕ) → is_token (Comment body) ≡ true → comment_at ((body ++ 45 ∷ 45 ∷ 62 ∷ []) ++ rest) ≡ Some (Comment body, rest)
 unfolding comment_at
 comment_again body rest h =
-    let w = both (list_all is_char body) (is_free (45 ∷ 45 ∷ []) body) h in
+    let w = and_parts (list_all is_char body) (is_free (45 ∷ 45 ∷ []) body) h in
     ap (λ (o : Found (List ℕ)). o >>= λ x. cond (list_all is_char x.0) (after 62 x.1 >>= λ r. some (Comment x.0, r)) no)
     (ap (λ (y : List ℕ). up_to (45 ∷ 45 ∷ []) y) (append_assoc body (45 ∷ 45 ∷ 62 ∷ []) rest) ∙ up_to_again (45 ∷ 45 ∷ []) body (62 ∷ rest) 45 (45 ∷ []) refl w.1)
     ∙ ap (λ b. cond b (some (Comment body, rest)) no) w.0
@@ -129,14 +129,14 @@ section_takes cs x e =
     let u = up_to_takes (93 ∷ 93 ∷ 62 ∷ []) cs a.0 a.1 in
     let t = taken (list_all is_char a.0.0) (Some (Section a.0.0, a.0.1)) x a.2 in
     subst (λ (y : Token × List ℕ). Takes (60 ∷ 33 ∷ 91 ∷ 67 ∷ 68 ∷ 65 ∷ 84 ∷ 65 ∷ 91 ∷ cs) y) (some_is _ x t.1) (record {
-      is = both_true _ _ t.0 u.free;
+      is = and_from _ _ t.0 u.free;
       parts = ap (λ (y : List ℕ). 60 ∷ 33 ∷ 91 ∷ 67 ∷ 68 ∷ 65 ∷ 84 ∷ 65 ∷ 91 ∷ y) (u.parts ∙ sym (append_assoc a.0.0 (93 ∷ 93 ∷ 62 ∷ []) a.0.1));
     })
 
 pub section_again : (body rest : List ℕ) → is_token (Section body) ≡ true → section_at ((body ++ 93 ∷ 93 ∷ 62 ∷ []) ++ rest) ≡ Some (Section body, rest)
 unfolding section_at
 section_again body rest h =
-    let w = both (list_all is_char body) (is_free (93 ∷ 93 ∷ 62 ∷ []) body) h in
+    let w = and_parts (list_all is_char body) (is_free (93 ∷ 93 ∷ 62 ∷ []) body) h in
     ap (λ (o : Found (List ℕ)). o >>= λ x. cond (list_all is_char x.0) (some (Section x.0, x.1)) no)
     (ap (λ (y : List ℕ). up_to (93 ∷ 93 ∷ 62 ∷ []) y) (append_assoc body (93 ∷ 93 ∷ 62 ∷ []) rest) ∙ up_to_again (93 ∷ 93 ∷ 62 ∷ []) body rest 93 (93 ∷ 62 ∷ []) refl w.1)
     ∙ ap (λ b. cond b (some (Section body, rest)) no) w.0
@@ -147,12 +147,12 @@ instruction_takes cs x e =
     let name = (span is_name_char cs).0 in
     let more = (span is_name_char cs).1 in
     let t = taken (is_name name && not (is_reserved name)) (up_to (63 ∷ 62 ∷ []) more >>= λ x. cond (is_rest x.0) (Some (Instruction name x.0, x.1)) None) x e in
-    let n = both (is_name name) (not (is_reserved name)) t.0 in
+    let n = and_parts (is_name name) (not (is_reserved name)) t.0 in
     let a = bind_some (up_to (63 ∷ 62 ∷ []) more) (λ x. cond (is_rest x.0) (Some (Instruction name x.0, x.1)) None) x t.1 in
     let u = up_to_takes (63 ∷ 62 ∷ []) more a.0 a.1 in
     let r = taken (is_rest a.0.0) (Some (Instruction name a.0.0, a.0.1)) x a.2 in
     subst (λ (y : Token × List ℕ). Takes (60 ∷ 63 ∷ cs) y) (some_is _ x r.1) (record {
-      is = both_true _ _ n.0 (both_true _ _ n.1 (both_true _ _ r.0 u.free));
+      is = and_from _ _ n.0 (and_from _ _ n.1 (and_from _ _ r.0 u.free));
       parts = ap (λ (y : List ℕ). 60 ∷ 63 ∷ y) (sym (span_whole is_name_char cs) ∙ ap (λ (y : List ℕ). name ++ y) u.parts ∙ group name a.0.0 (63 ∷ 62 ∷ []) a.0.1);
     })
   where
@@ -162,7 +162,7 @@ instruction_takes cs x e =
 -- a name goes no further where white space or `?` follows
 rest_stops : (body rest : List ℕ) → is_rest body ≡ true → Stops is_name_char (body ++ (63 ∷ 62 ∷ rest))
 rest_stops [] rest h = refl
-rest_stops (c ∷ cs) rest h = space_no_name c (both (is_space c) (list_all is_char cs) h).0
+rest_stops (c ∷ cs) rest h = space_no_name c (and_parts (is_space c) (list_all is_char cs) h).0
 
 abbrev pub instruction_rest : List ℕ × List ℕ → Found Token
 instruction_rest y = cond (is_name y.0 && not (is_reserved y.0)) (up_to (63 ∷ 62 ∷ []) y.1 >>= λ x. cond (is_rest x.0) (Some (Instruction y.0 x.0, x.1)) None) None
@@ -170,12 +170,12 @@ instruction_rest y = cond (is_name y.0 && not (is_reserved y.0)) (up_to (63 ∷ 
 pub instruction_again : (name body rest : List ℕ) → is_token (Instruction name body) ≡ true → instruction_at ((name ++ (body ++ 63 ∷ 62 ∷ [])) ++ rest) ≡ Some (Instruction name body, rest)
 unfolding instruction_at
 instruction_again name body rest h =
-    let n = both (is_name name) _ h in
-    let r = both (not (is_reserved name)) _ n.1 in
-    let f = both (is_rest body) (is_free (63 ∷ 62 ∷ []) body) r.1 in
+    let n = and_parts (is_name name) _ h in
+    let r = and_parts (not (is_reserved name)) _ n.1 in
+    let f = and_parts (is_rest body) (is_free (63 ∷ 62 ∷ []) body) r.1 in
     ap (λ (y : List ℕ). instruction_at y) (group name body (63 ∷ 62 ∷ []) rest)
     ∙ ap (λ (y : List ℕ × List ℕ). instruction_rest y) (span_again is_name_char name (body ++ (63 ∷ 62 ∷ rest)) (name_chars name n.0) (rest_stops body rest f.0))
-    ∙ ap (λ b. cond b (up_to (63 ∷ 62 ∷ []) (body ++ (63 ∷ 62 ∷ rest)) >>= λ x. cond (is_rest x.0) (some (Instruction name x.0, x.1)) no) no) (both_true _ _ n.0 r.0)
+    ∙ ap (λ b. cond b (up_to (63 ∷ 62 ∷ []) (body ++ (63 ∷ 62 ∷ rest)) >>= λ x. cond (is_rest x.0) (some (Instruction name x.0, x.1)) no) no) (and_from _ _ n.0 r.0)
     ∙ ap (λ (o : Found (List ℕ)). o >>= λ x. cond (is_rest x.0) (some (Instruction name x.0, x.1)) no) (up_to_again (63 ∷ 62 ∷ []) body rest 63 (62 ∷ []) refl f.1)
     ∙ ap (λ b. cond b (some (Instruction name body, rest)) no) f.0
   where

@@ -12,13 +12,14 @@ use Rattle.std.proofs.lemmas.List.{append-nil, take-append-drop, drop_at, take_a
 use Rattle.std.proofs.Math.Seq.{drop-append-add}
 use Rattle.std.proofs.lemmas.Slice.Eq.{bytes_eq-Decides}
 use Rattle.std.proofs.lemmas.Str.{chars-nil, chars-append, chars-IsAscii, chars_past_char, chars_from_encodes, encodes-chars, encodes-append, encodes-IsAscii, IsUtf8-encode, IsUtf8-from_ascii, IsUtf8-append, IsUtf8-take, IsUtf8-drop, IsCharBoundary-at_seam, length-encode, len_utf8_bounds, length-le-encodes}
+use Rattle.std.proofs.lemmas.Bool.{and_parts, and_from}
 use Rattle.mm_tree.specs.Characters.{is_name, is_short_name}
 use Rattle.mm_xml.specs.Letters.{starts, is_free, is_ascii}
 use Rattle.mm_xml.specs.Lexing.{up_to}
 use Rattle.mm_xml.specs.Grammar.{normal}
 use Rattle.mm_xml.specs.Lexemes.{Rests, Splits}
 use Rattle.mm_xml.specs.Prefix.{stripped}
-use Rattle.mm_xml.proofs.Spans.{taken, both, both_true, some_is, starts_takes, up_to_takes, up_to_again}
+use Rattle.mm_xml.proofs.Spans.{taken, some_is, starts_takes, up_to_takes, up_to_again}
 
 -- ---- no characters
 
@@ -47,8 +48,8 @@ below b h = grind (arith, nat_tests)
 
 each_below : (bs : List ℕ) → is_ascii bs ≡ true → (i : ℕ) → get_or bs i 0 < 128
 each_below [] h i = omega arith
-each_below (b ∷ bs) h zero = below b (both _ _ h).0
-each_below (b ∷ bs) h (suc i) = each_below bs (both _ _ h).1 i
+each_below (b ∷ bs) h zero = below b (and_parts _ _ h).0
+each_below (b ∷ bs) h (suc i) = each_below bs (and_parts _ _ h).1 i
 
 pub spelled_ascii : (p : List ℕ) → is_ascii p ≡ true → encode_utf8_all p ≡ p
 spelled_ascii p h = encodes-IsAscii p (each_below p h)
@@ -115,7 +116,7 @@ not_true false h = refl
 -- where the pattern stands at no byte before its place, it stands at no character before it
 free : (p front back : List ℕ) → is_ascii p ≡ true → ((i : ℕ) → i < length (encode_utf8_all front) → LacksTextAt p (encode_utf8_all front ++ (p ++ back)) i) → is_free p front ≡ true
 free p [] back h lacks = refl
-free p (c ∷ front) back h lacks = both_true _ _ (not_true _ here) (free p front back h later)
+free p (c ∷ front) back h lacks = and_from _ _ (not_true _ here) (free p front back h later)
   where
     here : starts p (c ∷ (front ++ p)) ≡ true → ⊥
     here s =

@@ -1,9 +1,10 @@
 -- What is read is spelled so, and what is spelled so is read.
-use Rattle.std.proofs.Common.{◌≡◌, ℕ, zero, suc, ◌≤◌, Bool, true, false, cond, ◌||◌, List, [], ◌∷◌, ◌++◌, length, map, Option, Some, None, refl, sym, ap, ◌∙◌, arith, ◌⊎◌, inl, inr}
+use Rattle.std.proofs.Common.{◌≡◌, ℕ, zero, suc, ◌≤◌, Bool, true, false, cond, List, [], ◌∷◌, ◌++◌, length, map, Option, Some, None, refl, sym, ap, ◌∙◌, arith, inl, inr}
 use Rattle.std.specs.Str.{bytes_eq, encode_utf8_all}
 use Rattle.std.specs.List.{flat_map, list_all}
 use Rattle.std.proofs.lemmas.List.{length-append}
 use Rattle.std.proofs.lemmas.Slice.Eq.{bytes_eq-Decides}
+use Rattle.std.proofs.lemmas.Bool.{and_parts, and_from, or_cases, or_left, or_right}
 use Rattle.mm_tree.specs.declared.Kind.{Kind}
 use Rattle.mm_tree.specs.declared.Kind.TheVariants.{Element, Words}
 use Rattle.mm_tree.specs.Characters.{is_space}
@@ -14,7 +15,7 @@ use Rattle.mm_xml.specs.Lexing.{◌>>=◌, Found, token_at}
 use Rattle.mm_xml.specs.Telling.{Sign, told}
 use Rattle.mm_xml.specs.Machine.{State, Before, Inside, After, with_child, place, place_all, finished, build, step, cleared, leaf_at, text_step, open_step, sign_step, Order, sign_may, sign_next, may, next, in_turn, accept, read_from, document, text, read_as, or_else, read_plain, read_behind, read_all}
 use Rattle.mm_xml.specs.Declaring.{after_declaration}
-use Rattle.mm_xml.proofs.Spans.{taken, some, no, some_is, bind_some, both, both_true}
+use Rattle.mm_xml.proofs.Spans.{taken, some, no, some_is, bind_some}
 use Rattle.mm_xml.proofs.Builds.{place_all_append, build_full, build_sound}
 use Rattle.mm_xml.proofs.Turns.{turns, text_turns, accept_is}
 use Rattle.mm_xml.proofs.Content.{token_takes, token_again}
@@ -103,7 +104,7 @@ read_sound (suc n) s run o (c ∷ cs) t e =
     let more = read_sound n moved.0.0 moved.0.1 (next o x.0) x.1 t moved.2 in
     record {
       tokens = x.0 ∷ more.tokens;
-      each = both_true _ _ takes.is more.each;
+      each = and_from _ _ takes.is more.each;
       spelled_so = takes.parts ∙ ap (λ r. spelled x.0 ++ r) more.spelled_so;
       accepted = ap (λ b. cond b (step s run x.0 >>= λ y. accept y.0 y.1 (next o x.0) more.tokens) no) allowed.0 ∙ ap (λ q. q >>= λ y. accept y.0 y.1 (next o x.0) more.tokens) moved.1 ∙ more.accepted;
     }
@@ -139,7 +140,7 @@ read_again n [] s run o each le = ends_at n s run o
 read_again zero (t ∷ ts) s run o each le = let f = first t in absurd (omega (arith, length-append (spelled t) (flat_map spelled ts), ap length f.2, le))
 read_again (suc n) (t ∷ ts) s run o each le =
     let f = first t in
-    let w = both (is_token t) (list_all is_token ts) each in
+    let w = and_parts (is_token t) (list_all is_token ts) each in
     let rest = flat_map spelled ts in
     let shorter : length rest ≤ n = omega (arith, length-append (spelled t) (flat_map spelled ts), ap length f.2, le) in
     read_step n s run o (spelled t ++ rest) f.0 (f.1 ++ rest) t rest (ap (λ (r : List ℕ). r ++ rest) f.2) (token_again t rest w.0)
@@ -179,40 +180,28 @@ same_tokens [] [] a b e = refl
 same_tokens [] (u ∷ us) a b e = let f = first u in absurd (omega (arith, ap length e, length-append (spelled u) (flat_map spelled us), ap length f.2))
 same_tokens (t ∷ ts) [] a b e = let f = first t in absurd (omega (arith, ap length e, length-append (spelled t) (flat_map spelled ts), ap length f.2))
 same_tokens (t ∷ ts) (u ∷ us) a b e =
-    let v = both (is_token t) (list_all is_token ts) a in
-    let w = both (is_token u) (list_all is_token us) b in
+    let v = and_parts (is_token t) (list_all is_token ts) a in
+    let w = and_parts (is_token u) (list_all is_token us) b in
     let p : (t, flat_map spelled ts) ≡ (u, flat_map spelled us) = some_is _ _ (sym (token_again t (flat_map spelled ts) v.0) ∙ ap token_at e ∙ token_again u (flat_map spelled us) w.0) in
     (λ i. (p i).0 ∷ same_tokens ts us v.1 w.1 (ap (λ (x : Token × List ℕ). x.1) p) i)
-
-pub either_true : (a b : Bool) → (a || b) ≡ true → (a ≡ true) ⊎ (b ≡ true)
-either_true true b e = inl refl
-either_true false b e = inr e
-
-pub either_left : (a b : Bool) → a ≡ true → (a || b) ≡ true
-either_left true b e = refl
-either_left false b e = absurd cc
-
-pub either_right : (a b : Bool) → b ≡ true → (a || b) ≡ true
-either_right true b e = refl
-either_right false b e = e
 
 abbrev AreFormed : Option Declaration → List Token → Type 0
 AreFormed first tokens = (unbroken 0 tokens ≡ true) × (has_form first tokens ≡ true)
 
 document_form : (tokens : List Token) → in_turn document tokens ≡ true → AreFormed None tokens
 document_form tokens h =
-    let w = both (unbroken 0 tokens) (outside true 0 tokens) (sym (turns tokens 0 true 0) ∙ h) in
-    (w.0, either_left (outside true 0 tokens) (list_all is_textual tokens) w.1)
+    let w = and_parts (unbroken 0 tokens) (outside true 0 tokens) (sym (turns tokens 0 true 0) ∙ h) in
+    (w.0, or_left (outside true 0 tokens) (list_all is_textual tokens) w.1)
 
 declared_form : (d : Declaration) (tokens : List Token) → is_declaration d ≡ true → in_turn document tokens ≡ true → AreFormed (Some d) tokens
 declared_form d tokens is h =
-    let w = both (unbroken 0 tokens) (outside true 0 tokens) (sym (turns tokens 0 true 0) ∙ h) in
-    (w.0, either_left (is_document (Some d) tokens) false (both_true _ _ is w.1))
+    let w = and_parts (unbroken 0 tokens) (outside true 0 tokens) (sym (turns tokens 0 true 0) ∙ h) in
+    (w.0, or_left (is_document (Some d) tokens) false (and_from _ _ is w.1))
 
 text_form : (tokens : List Token) → in_turn text tokens ≡ true → AreFormed None tokens
 text_form tokens h =
-    let w = both (unbroken 0 tokens) (list_all is_textual tokens) (sym (text_turns tokens 0) ∙ h) in
-    (w.0, either_right (outside true 0 tokens) (list_all is_textual tokens) w.1)
+    let w = and_parts (unbroken 0 tokens) (list_all is_textual tokens) (sym (text_turns tokens 0) ∙ h) in
+    (w.0, or_right (outside true 0 tokens) (list_all is_textual tokens) w.1)
 
 makes_spelled : (first : Option Declaration) (o : Order) (cs rest : List ℕ) (t : Tree Kind) (tokens : List Token) → Makes o rest t tokens → cs ≡ spelled_first first ++ rest → AreFormed first tokens → SpelledBy cs t first tokens
 makes_spelled first o cs rest t tokens m parts w =
@@ -248,7 +237,7 @@ behind (Some rest) cs = rest
 pub rest_spelled : (cs : List ℕ) (t : Tree Kind) (first : Option Declaration) (tokens : List Token) → SpelledBy cs t first tokens → behind (after_declaration cs) cs ≡ flat_map spelled tokens
 rest_spelled cs t None tokens s = ap (λ o. behind o cs) (ap after_declaration s.spelled_so ∙ undeclared tokens s.each) ∙ s.spelled_so
 rest_spelled cs t (Some d) tokens s =
-    let f = elim (either_true (is_document (Some d) tokens) false s.form) as (λ x. is_declaration d ≡ true) [ inl h ↦ (both (is_declaration d) (outside true 0 tokens) h).0 | inr h ↦ absurd cc ] in
+    let f = elim (or_cases (is_document (Some d) tokens) false s.form) as (λ x. is_declaration d ≡ true) [ inl h ↦ (and_parts (is_declaration d) (outside true 0 tokens) h).0 | inr h ↦ absurd cc ] in
     ap (λ o. behind o cs) (ap after_declaration s.spelled_so ∙ declaration_again d (flat_map spelled tokens) f)
 
 -- characters spell at most one tree
@@ -259,9 +248,9 @@ one_spelled cs t u first other ts us a b =
 
 plain_read : (cs : List ℕ) (t : Tree Kind) (tokens : List Token) → SpelledBy cs t None tokens → read_plain cs ≡ Some t
 plain_read cs t tokens s =
-    elim (either_true (outside true 0 tokens) (list_all is_textual tokens) s.form) [
-      | inl h ↦ ap (λ d. or_else d (read_as text cs)) (makes_read document cs t tokens (record { each = s.each; spelled_so = s.spelled_so; turn = turns tokens 0 true 0 ∙ both_true _ _ s.whole h; tree_is = s.tree_is }))
-      | inr h ↦ choose (read_as document cs) refl (makes_read text cs t tokens (record { each = s.each; spelled_so = s.spelled_so; turn = text_turns tokens 0 ∙ both_true _ _ s.whole h; tree_is = s.tree_is }))
+    elim (or_cases (outside true 0 tokens) (list_all is_textual tokens) s.form) [
+      | inl h ↦ ap (λ d. or_else d (read_as text cs)) (makes_read document cs t tokens (record { each = s.each; spelled_so = s.spelled_so; turn = turns tokens 0 true 0 ∙ and_from _ _ s.whole h; tree_is = s.tree_is }))
+      | inr h ↦ choose (read_as document cs) refl (makes_read text cs t tokens (record { each = s.each; spelled_so = s.spelled_so; turn = text_turns tokens 0 ∙ and_from _ _ s.whole h; tree_is = s.tree_is }))
     ]
   where
     choose : (d : Option (Tree Kind)) → read_as document cs ≡ d → read_as text cs ≡ Some t → or_else d (read_as text cs) ≡ Some t
@@ -271,11 +260,11 @@ plain_read cs t tokens s =
 pub spelled_read : (cs : List ℕ) (t : Tree Kind) (first : Option Declaration) (tokens : List Token) → SpelledBy cs t first tokens → read_all cs ≡ Some t
 spelled_read cs t None tokens s = ap (λ o. read_behind o cs) (ap after_declaration s.spelled_so ∙ undeclared tokens s.each) ∙ plain_read cs t tokens s
 spelled_read cs t (Some d) tokens s =
-    elim (either_true (is_document (Some d) tokens) false s.form) [
+    elim (or_cases (is_document (Some d) tokens) false s.form) [
       | inl h ↦
-          let w = both (is_declaration d) (outside true 0 tokens) h in
+          let w = and_parts (is_declaration d) (outside true 0 tokens) h in
           ap (λ o. read_behind o cs) (ap after_declaration s.spelled_so ∙ declaration_again d (flat_map spelled tokens) w.0)
-          ∙ makes_read document (flat_map spelled tokens) t tokens (record { each = s.each; spelled_so = refl; turn = turns tokens 0 true 0 ∙ both_true _ _ s.whole w.1; tree_is = s.tree_is })
+          ∙ makes_read document (flat_map spelled tokens) t tokens (record { each = s.each; spelled_so = refl; turn = turns tokens 0 true 0 ∙ and_from _ _ s.whole w.1; tree_is = s.tree_is })
       | inr h ↦ absurd cc
     ]
 

@@ -1,9 +1,9 @@
 -- What is written is spelled so, and is read back.
-use Rattle.std.proofs.Common.{◌≡◌, ℕ, suc, ◌+◌, ◌-◌, ◌≤◌, ◌<◌, Bool, true, false, cond, ◌&&◌, List, [], ◌∷◌, ◌++◌, length, map, get_or, None, eqb, leb, not, refl, sym, ap, subst, ◌∙◌, append_assoc, arith}
+use Rattle.std.proofs.Common.{◌≡◌, ℕ, suc, ◌+◌, ◌-◌, ◌≤◌, ◌<◌, Bool, true, false, cond, ◌&&◌, List, [], ◌∷◌, ◌++◌, length, map, get_or, None, eqb, leb, not, refl, sym, ap, subst, ◌∙◌, append_assoc, arith, append-nil}
 use Rattle.std.specs.Prelude.{IsTrue, encode_utf8, codes}
 use Rattle.std.specs.List.{list_all, flat_map}
 use Rattle.std.specs.Str.{chars, is_utf8, encode_utf8_all}
-use Rattle.std.proofs.lemmas.Bool.{eqb-true}
+use Rattle.std.proofs.lemmas.Bool.{eqb-true, and_parts, and_from, or_left, or_right}
 use Rattle.std.proofs.lemmas.Bool.Decides.{nat_tests}
 use Rattle.std.proofs.lemmas.List.{append-nil}
 use Rattle.std.proofs.lemmas.Grind.{flat_map-append}
@@ -19,10 +19,8 @@ use Rattle.mm_xml.specs.Syntax.{Part, Literal, Reference, is_part, is_within, sp
 use Rattle.mm_xml.specs.Grammar.{Bracket, Begin, End, text_brackets, brackets, bracketing, unbroken, outside, is_textual, has_form, Spells}
 use Rattle.mm_xml.specs.Productions.{is_plain, is_marked}
 use Rattle.mm_xml.specs.Writing.{text_byte, value_byte, written_attribute, tag_front, end_tag, written, no_text, are_apart, is_marked_text}
-use Rattle.mm_xml.proofs.Spans.{both, both_true}
 use Rattle.mm_xml.proofs.Attributes.{short_chars}
 use Rattle.mm_xml.proofs.TextFacts.{spelled_ascii, spelled_front}
-use Rattle.mm_xml.proofs.Whole.{either_left, either_right}
 use Rattle.mm_xml.proofs.Joins.{plain_lines, plain_encoded, plain_append, name_plain}
 use Rattle.mm_xml.proofs.Forms.{unmarked_characters}
 
@@ -84,17 +82,17 @@ IsWritable (node (Words text) inner rest) = (inner ≡ none) × IsText text × (
 IsWritable (node (Element name attributes) inner rest) = IsNamed name × AreAttributes attributes × (differ attributes ≡ true) × IsWritable inner × IsWritable rest
 
 text_is : (bytes : List ℕ) → are_chars bytes ≡ true → IsText bytes
-text_is bytes h = let w = both (is_utf8 bytes) (list_all is_char (chars bytes)) h in (encodes-chars bytes (IsUtf8-from_is_utf8 bytes w.0), w.1)
+text_is bytes h = let w = and_parts (is_utf8 bytes) (list_all is_char (chars bytes)) h in (encodes-chars bytes (IsUtf8-from_is_utf8 bytes w.0), w.1)
 
 name_is : (bytes : List ℕ) → is_node_name bytes ≡ true → IsNamed bytes
-name_is bytes h = let w = both (is_utf8 bytes) (is_short_name (chars bytes)) h in (encodes-chars bytes (IsUtf8-from_is_utf8 bytes w.0), w.1)
+name_is bytes h = let w = and_parts (is_utf8 bytes) (is_short_name (chars bytes)) h in (encodes-chars bytes (IsUtf8-from_is_utf8 bytes w.0), w.1)
 
 attributes_are : (attributes : List Attribute) → list_all is_valid_attribute attributes ≡ true → AreAttributes attributes
 attributes_are [] h = tt
 attributes_are (a ∷ attributes) h =
-    let w = both (is_valid_attribute a) (list_all is_valid_attribute attributes) h in
-    let n = both (is_node_name a.name) _ w.0 in
-    let v = both (are_chars a.value) _ n.1 in
+    let w = and_parts (is_valid_attribute a) (list_all is_valid_attribute attributes) h in
+    let n = and_parts (is_node_name a.name) _ w.0 in
+    let v = and_parts (are_chars a.value) _ n.1 in
     (name_is a.name n.0, text_is a.value v.0, attributes_are attributes w.1)
 
 negated : (b : Bool) → not b ≡ true → b ≡ false
@@ -112,7 +110,7 @@ record ValidText (text : List ℕ) : Type 0 where
 valid_text : (text : List ℕ) → is_valid_kind (Words text) ≡ true → ValidText text
 unfolding is_valid_kind
 valid_text text h =
-    let w = both _ _ (both _ _ h).0 in
+    let w = and_parts _ _ (and_parts _ _ h).0 in
     record { chars_are = w.0; ink = negated _ w.1 }
 
 record ValidElement (name : List ℕ) (attributes : List Attribute) : Type 0 where
@@ -123,27 +121,27 @@ record ValidElement (name : List ℕ) (attributes : List Attribute) : Type 0 whe
 valid_element : (name : List ℕ) (attributes : List Attribute) → is_valid_kind (Element name attributes) ≡ true → ValidElement name attributes
 unfolding is_valid_kind
 valid_element name attributes h =
-    let n = both (is_node_name name) _ (both _ _ h).0 in
-    let a = both (list_all is_valid_attribute attributes) _ n.1 in
-    let d = both (are_distinct (map (λ a. a.name) attributes)) _ a.1 in
+    let n = and_parts (is_node_name name) _ (and_parts _ _ h).0 in
+    let a = and_parts (list_all is_valid_attribute attributes) _ n.1 in
+    let d = and_parts (are_distinct (map (λ a. a.name) attributes)) _ a.1 in
     record { named = n.0; each = a.0; distinct = d.0 }
 
 writable : (ts : Trees Kind) → every is_valid_node ts ≡ true → are_apart ts ≡ true → IsWritable ts
 writable none h k = tt
 writable (node (Words text) inner rest) h k =
-    let n = both (is_valid_node (Words text) (has_some inner)) _ h in
-    let v = both (is_valid_kind (Words text)) _ n.0 in
+    let n = and_parts (is_valid_node (Words text) (has_some inner)) _ h in
+    let v = and_parts (is_valid_kind (Words text)) _ n.0 in
     let t = valid_text text v.0 in
-    let r = both (every is_valid_node inner) (every is_valid_node rest) n.1 in
-    let a = both (no_text rest) _ k in
-    let b = both (are_apart inner) (are_apart rest) a.1 in
+    let r = and_parts (every is_valid_node inner) (every is_valid_node rest) n.1 in
+    let a = and_parts (no_text rest) _ k in
+    let b = and_parts (are_apart inner) (are_apart rest) a.1 in
     (leaf inner v.1, text_is text t.chars_are, t.ink, a.0, writable rest r.1 b.1)
 writable (node (Element name attributes) inner rest) h k =
-    let n = both (is_valid_node (Element name attributes) (has_some inner)) _ h in
-    let v = both (is_valid_kind (Element name attributes)) _ n.0 in
+    let n = and_parts (is_valid_node (Element name attributes) (has_some inner)) _ h in
+    let v = and_parts (is_valid_kind (Element name attributes)) _ n.0 in
     let e = valid_element name attributes v.0 in
-    let r = both (every is_valid_node inner) (every is_valid_node rest) n.1 in
-    let b = both (are_apart inner) (are_apart rest) k in
+    let r = and_parts (every is_valid_node inner) (every is_valid_node rest) n.1 in
+    let b = and_parts (are_apart inner) (are_apart rest) k in
     (name_is name e.named, attributes_are attributes e.each, e.distinct, writable inner r.0 b.0, writable rest r.1 b.1)
 
 -- ---- a property of a choice, by its two sides
@@ -204,10 +202,6 @@ text_run (c ∷ cs) run us =
 abbrev Cuts : List Token → Type 0
 Cuts us = (run : List ℕ) → brackets run us ≡ text_brackets run ++ brackets [] us
 
-brackets_none : (ps : List Bracket) → ps ++ [] ≡ ps
-brackets_none [] = refl
-brackets_none (p ∷ ps) = ap (λ (qs : List Bracket). p ∷ qs) (brackets_none ps)
-
 rest_cuts : (ts : Trees Kind) (us : List Token) → no_text ts ≡ true → Cuts us → Cuts (tokens_of ts ++ us)
 rest_cuts none us h cut = cut
 rest_cuts (node (Words text) inner rest) us h cut = absurd cc
@@ -243,8 +237,8 @@ written_brackets (node (Element name attributes) (node kind inner more) rest) us
 written_tree : (t : Tree Kind) → IsWritable (one t) → brackets [] (tokens_of (one t)) ≡ bracketing (one t)
 written_tree t h =
     ap (λ (xs : List Token). brackets [] xs) (sym (tokens_none (tokens_of (one t))))
-    ∙ written_brackets (one t) [] h (λ run. sym (brackets_none (text_brackets run)))
-    ∙ brackets_none (bracketing (one t))
+    ∙ written_brackets (one t) [] h (λ run. sym (append-nil (text_brackets run)))
+    ∙ append-nil (bracketing (one t))
   where
     tokens_none : (xs : List Token) → xs ++ [] ≡ xs
     tokens_none [] = refl
@@ -292,8 +286,8 @@ text_form [] = refl
 text_form (c ∷ cs) = text_form cs
 
 form_of : (kind : Kind) (inner : Trees Kind) → has_form None (tokens_of (node kind inner none)) ≡ true
-form_of (Element name attributes) inner = either_left _ _ (written_order name attributes inner)
-form_of (Words text) inner = either_right (outside true 0 (text_tokens (chars text) ++ [])) _ (text_form (chars text))
+form_of (Element name attributes) inner = or_left _ _ (written_order name attributes inner)
+form_of (Words text) inner = or_right (outside true 0 (text_tokens (chars text) ++ [])) _ (text_form (chars text))
 
 -- ---- each is a token
 
@@ -338,29 +332,29 @@ plain_value_part c h =
 
 values_all : (cs : List ℕ) → list_all is_char cs ≡ true → list_all (is_within 34) (map value_part cs) ≡ true
 values_all [] h = refl
-values_all (c ∷ cs) h = let w = both (is_char c) (list_all is_char cs) h in both_true _ _ (part_of_value c w.0) (values_all cs w.1)
+values_all (c ∷ cs) h = let w = and_parts (is_char c) (list_all is_char cs) h in and_from _ _ (part_of_value c w.0) (values_all cs w.1)
 
 texts_all : (cs : List ℕ) → list_all is_char cs ≡ true → list_all is_token (text_tokens cs) ≡ true
 texts_all [] h = refl
-texts_all (c ∷ cs) h = let w = both (is_char c) (list_all is_char cs) h in both_true _ _ (part_of_text c w.0) (texts_all cs w.1)
+texts_all (c ∷ cs) h = let w = and_parts (is_char c) (list_all is_char cs) h in and_from _ _ (part_of_text c w.0) (texts_all cs w.1)
 
 all_append : (p : Token → Bool) (xs ys : List Token) → list_all p xs ≡ true → list_all p ys ≡ true → list_all p (xs ++ ys) ≡ true
 all_append p [] ys h k = k
-all_append p (x ∷ xs) ys h k = let w = both (p x) (list_all p xs) h in both_true _ _ w.0 (all_append p xs ys w.1 k)
+all_append p (x ∷ xs) ys h k = let w = and_parts (p x) (list_all p xs) h in and_from _ _ w.0 (all_append p xs ys w.1 k)
 
 attributes_all : (attributes : List Attribute) → AreAttributes attributes → list_all is_written (map written_of attributes) ≡ true
 attributes_all [] h = refl
-attributes_all (a ∷ attributes) h = both_true _ _ (both_true (is_short_name (chars a.name)) _ h.0.1 (values_all (chars a.value) h.1.1)) (attributes_all attributes h.2)
+attributes_all (a ∷ attributes) h = and_from _ _ (and_from (is_short_name (chars a.name)) _ h.0.1 (values_all (chars a.value) h.1.1)) (attributes_all attributes h.2)
 
 open_is : (empty : Bool) (name : List ℕ) (attributes : List Attribute) → is_short_name (chars name) ≡ true → AreAttributes attributes → differ attributes ≡ true → is_token (open_token empty name attributes) ≡ true
-open_is empty name attributes n h d = both_true _ _ n (both_true _ _ (attributes_all attributes h) (both_true _ _ (ap differ (attributes_back attributes h) ∙ d) refl))
+open_is empty name attributes n h d = and_from _ _ n (and_from _ _ (attributes_all attributes h) (and_from _ _ (ap differ (attributes_back attributes h) ∙ d) refl))
 
 written_each : (ts : Trees Kind) → IsWritable ts → list_all is_token (tokens_of ts) ≡ true
 written_each none h = refl
 written_each (node (Words text) inner rest) h = all_append is_token (text_tokens (chars text)) (tokens_of rest) (texts_all (chars text) h.1.1) (written_each rest h.4)
-written_each (node (Element name attributes) none rest) h = both_true _ _ (open_is true name attributes h.0.1 h.1 h.2) (written_each rest h.4)
+written_each (node (Element name attributes) none rest) h = and_from _ _ (open_is true name attributes h.0.1 h.1 h.2) (written_each rest h.4)
 written_each (node (Element name attributes) (node kind inner more) rest) h =
-    both_true _ _ (open_is false name attributes h.0.1 h.1 h.2) (all_append is_token (tokens_of (node kind inner more)) (close_token name ∷ tokens_of rest) (written_each (node kind inner more) h.3) (both_true _ _ (both_true _ _ h.0.1 refl) (written_each rest h.4)))
+    and_from _ _ (open_is false name attributes h.0.1 h.1 h.2) (all_append is_token (tokens_of (node kind inner more)) (close_token name ∷ tokens_of rest) (written_each (node kind inner more) h.3) (and_from _ _ (and_from _ _ h.0.1 refl) (written_each rest h.4)))
 
 -- ---- no `>` stands as it is
 
@@ -371,8 +365,8 @@ no_close t = true
 unbroken_if : (ts : List Token) (n : ℕ) → list_all no_close ts ≡ true → unbroken n ts ≡ true
 unbroken_if [] n h = refl
 unbroken_if (Data (Literal c) ∷ ts) n h =
-    let w = both (not (eqb c 62)) (list_all no_close ts) h in
-    choose (λ b. b ≡ true) (eqb c 93) _ _ (λ e. unbroken_if ts (n + 1) w.1) (λ e. both_true _ _ (tests (eqb c 62) (leb 2 n) w.0) (unbroken_if ts 0 w.1))
+    let w = and_parts (not (eqb c 62)) (list_all no_close ts) h in
+    choose (λ b. b ≡ true) (eqb c 93) _ _ (λ e. unbroken_if ts (n + 1) w.1) (λ e. and_from _ _ (tests (eqb c 62) (leb 2 n) w.0) (unbroken_if ts 0 w.1))
   where
     tests : (a b : Bool) → not a ≡ true → not (a && b) ≡ true
     tests true b h = absurd cc
@@ -396,7 +390,7 @@ no_close_text c =
 
 texts_close : (cs : List ℕ) → list_all no_close (text_tokens cs) ≡ true
 texts_close [] = refl
-texts_close (c ∷ cs) = both_true _ _ (no_close_text c) (texts_close cs)
+texts_close (c ∷ cs) = and_from _ _ (no_close_text c) (texts_close cs)
 
 tree_close : (ts : Trees Kind) → list_all no_close (tokens_of ts) ≡ true
 tree_close none = refl
@@ -415,11 +409,11 @@ spelled_append (x ∷ xs) ys = ap (λ (r : List ℕ). spelled x ++ r) (spelled_a
 
 plain_values : (cs : List ℕ) → list_all is_char cs ≡ true → list_all is_plain (flat_map spelled_part (map value_part cs)) ≡ true
 plain_values [] h = refl
-plain_values (c ∷ cs) h = let w = both (is_char c) (list_all is_char cs) h in plain_append (spelled_part (value_part c)) _ (plain_value_part c w.0) (plain_values cs w.1)
+plain_values (c ∷ cs) h = let w = and_parts (is_char c) (list_all is_char cs) h in plain_append (spelled_part (value_part c)) _ (plain_value_part c w.0) (plain_values cs w.1)
 
 plain_texts : (cs : List ℕ) → list_all is_char cs ≡ true → list_all is_plain (spelled_all (text_tokens cs)) ≡ true
 plain_texts [] h = refl
-plain_texts (c ∷ cs) h = let w = both (is_char c) (list_all is_char cs) h in plain_append (spelled_part (text_part c)) _ (plain_text_part c w.0) (plain_texts cs w.1)
+plain_texts (c ∷ cs) h = let w = and_parts (is_char c) (list_all is_char cs) h in plain_append (spelled_part (text_part c)) _ (plain_text_part c w.0) (plain_texts cs w.1)
 
 plain_name : (name : List ℕ) → is_short_name name ≡ true → list_all is_plain name ≡ true
 plain_name name n = name_plain name (short_chars name n)

@@ -1,9 +1,9 @@
 use Rattle.std.proofs.Common.{arith, ap, ◌∙◌, ◌≡◌, ◌+◌, [], get_or, length}
+use Rattle.std.proofs.lemmas.List.{get_or_default}
 use Rattle.mm_tree.specs.Search.{list_of, lists_of, worded}
-use Rattle.mm_lists.specs.Fronts.{Word}
+use Rattle.mm_lists.specs.Full.{Word}
 use Rattle.mm_lists.specs.Lists.{head_of}
-use Rattle.mm_lists.proofs.Listed.{get_same}
-use Rattle.mm_elca.proofs.Cost.{steps_so_far}
+use Rattle.mm_lists.specs.Facts.Shortest.{steps_so_far}
 use Rattle.mm_elca.proofs.Gathering.{gathering_first, gathering_end, gathered_sorted}
 use Rattle.mm_elca.proofs.candidates.gather.Goals as goal
 
@@ -16,7 +16,7 @@ loop-i-init g c = record {
   cost = omega arith;
   count = omega (arith, ap length c.new-found.ensures);
   value = λ f w s n.
-      let e : c.index-words-own.result ≡ get_or c.args.words.now c.args.own [] = c.index-words-own.is ∙ get_same c.args.words.now c.args.own c.index-words-own.result [] c.requires in
+      let e : c.index-words-own.result ≡ get_or c.args.words.now c.args.own [] = c.index-words-own.is ∙ get_or_default c.args.words.now c.args.own c.index-words-own.result [] c.requires in
       let h : c.in_ok-at.at ≡ head_of (list_of (get_or c.args.words.now c.args.own []) (worded f)) = c.in_ok-at.ensures.value f s ∙ ap (λ (q : Word). head_of (list_of q (worded f))) e in
       gathering_first (lists_of c.args.words.now (worded f)) (list_of (get_or c.args.words.now c.args.own []) (worded f)) _ c.in_ok-at.at c.new-found.ensures h;
 }

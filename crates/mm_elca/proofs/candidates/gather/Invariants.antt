@@ -4,7 +4,7 @@ use Rattle.mm_tree.specs.Trees.{Trees}
 use Rattle.mm_tree.specs.Numbering.{Labelled}
 use Rattle.mm_tree.specs.Forests.{is_well_formed}
 use Rattle.mm_tree.specs.Search.{list_of, lists_of, worded}
-use Rattle.mm_lists.specs.Fronts.{Full}
+use Rattle.mm_lists.specs.Full.{Full}
 use Rattle.mm_elca.specs.Owning.{Gathering}
 use Rattle.mm_elca.proofs.candidates.gather.Given as goal
 

@@ -1,7 +1,8 @@
 use Rattle.std.proofs.Common.{arith, ◌∙◌, ◌≡◌, ◌<◌, length}
 use Rattle.mm_tree.specs.Search.{worded}
-use Rattle.mm_lists.proofs.Segments.{formed}
-use Rattle.mm_elca.proofs.Cost.{cost_counts, cost_full, shortest_full, steps_whole}
+use Rattle.mm_lists.specs.Facts.Formed.{formed}
+use Rattle.mm_elca.proofs.Cost.{cost_counts, cost_full, steps_whole}
+use Rattle.mm_lists.specs.Facts.Shortest.{shortest_full}
 use Rattle.mm_elca.proofs.Answering.{elca_none}
 use Rattle.mm_elca.proofs.search.answers.Goals as goal
 

@@ -1,6 +1,6 @@
 use Rattle.std.proofs.Common.{arith, ap, ◌≡◌, ◌∙◌, sym, subst, length, List}
 use Rattle.mm_tree.specs.Search.{lists_of, worded}
-use Rattle.mm_lists.specs.Fronts.{Label}
+use Rattle.mm_label.specs.Fronts.{Label}
 use Rattle.mm_elca.specs.Children.{AreBelow, AreChildren, AreChildrenTo}
 use Rattle.mm_elca.specs.Clear.{TellsAll}
 use Rattle.mm_elca.proofs.Judging.{step_below, step_children, step_stack, step_done}

@@ -1,8 +1,8 @@
 use Rattle.std.proofs.Common.{arith, sym, subst, List, take_all}
 use Rattle.mm_tree.specs.Search.{list_of, worded}
-use Rattle.mm_lists.specs.Fronts.{Label}
-use Rattle.mm_lists.proofs.Keeping.{kept_along}
-use Rattle.mm_lists.proofs.Nearest.{right_match}
+use Rattle.mm_label.specs.Fronts.{Label}
+use Rattle.mm_lists.specs.Facts.Keeping.{kept_along}
+use Rattle.mm_lists.specs.Facts.Nearest.{right_match}
 use Rattle.mm_elca.specs.Clear.{IsFirstClear, Tells, is_under}
 use Rattle.mm_elca.proofs.Clearing.{next_child, past_first, tells, one_more}
 use Rattle.mm_elca.proofs.test.own_match.Goals as goal

@@ -1,8 +1,10 @@
 use Rattle.std.proofs.Common.{arith, ◌≡◌, ◌∙◌, sym, ap, subst, List, [], ◌∷◌, ◌++◌, get_or, take, ◌+◌, ◌&&◌}
+use Rattle.std.proofs.lemmas.List.{get_or_default}
 use Rattle.mm_tree.specs.Search.{list_of, lists_of, worded}
-use Rattle.mm_lists.specs.Fronts.{Label, Word}
-use Rattle.mm_lists.proofs.Keeping.{kept_along}
-use Rattle.mm_lists.proofs.Listed.{get_same, lists_more}
+use Rattle.mm_label.specs.Fronts.{Label}
+use Rattle.mm_lists.specs.Full.{Word}
+use Rattle.mm_lists.specs.Facts.Keeping.{kept_along}
+use Rattle.mm_lists.specs.Facts.Listed.{lists_more}
 use Rattle.mm_elca.specs.Clear.{TellsAll}
 use Rattle.mm_elca.proofs.Clearing.{tells_more}
 use Rattle.mm_elca.proofs.test.owns_each.Goals as goal
@@ -18,7 +20,7 @@ loop-word-preserved g c = record {
       let x = c.args.x.now in
       let ks = c.args.kids.now in
       let i = c.loop-word.word-index in
-      let e : c.word-item.result ≡ get_or c.args.words.now i [] = c.word-item.is ∙ get_same c.args.words.now i c.word-item.result [] c.loop-word-test.true in
+      let e : c.word-item.result ≡ get_or c.args.words.now i [] = c.word-item.is ∙ get_or_default c.args.words.now i c.word-item.result [] c.loop-word-test.true in
       subst (TellsAll (lists_of (take (i + 1) c.args.words.now) (worded f)) x ks) (sym c.both-so_far.ensures)
       (subst (λ (ls : List (List Label)). TellsAll ls x ks (c.loop-word.so_far && c.in_ok-here.here))
       (ap (λ (q : Word). lists_of (take i c.args.words.now) (worded f) ++ list_of q (worded f) ∷ []) e ∙ sym (lists_more c.args.words.now i (worded f) c.loop-word-test.true))

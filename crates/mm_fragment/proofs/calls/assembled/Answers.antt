@@ -2,7 +2,7 @@ use Rattle.std.proofs.Common.{◌≡◌, inl, inr, sym, subst, ap, ◌∙◌, Li
 use Rattle.std.proofs.lemmas.Result.{IfOk-weaker}
 use Rattle.mm_match.specs.declared.mark.Mark.{Mark}
 use Rattle.mm_match.specs.Marks.{kept, labels}
-use Rattle.mm_match.specs.Fronts.{Ascends}
+use Rattle.mm_label.specs.Fronts.{Ascends}
 use Rattle.mm_tree.specs.Numbering.{forest_of}
 use Rattle.mm_tree.specs.Fragments.{fragment}
 use Rattle.mm_fragment.specs.Piling.{shown_all}

@@ -1,5 +1,5 @@
 use Rattle.std.proofs.Common.{◌≡◌, subst, List, ◌∙◌}
-use Rattle.mm_lists.specs.Fronts.{Word}
+use Rattle.mm_lists.specs.Full.{Word}
 use Rattle.mm_tree.specs.Numbering.{forest_of}
 use Rattle.mm_tree.specs.Fragments.{fragment, fragment_tree}
 use Rattle.mm_fragment.specs.Showing.{named_in}

@@ -1,8 +1,9 @@
 use Rattle.std.proofs.Common.{sym, subst, refl}
-use Rattle.mm_lists.specs.Fronts.{Label, Front}
+use Rattle.mm_label.specs.Fronts.{Label, Front}
 use Rattle.mm_fragment.specs.Matching.{Reaches}
-use Rattle.mm_fragment.proofs.FrontLaws.{front_antisym}
-use Rattle.mm_fragment.proofs.Kids.{other_label, same_label, same_child}
+use Rattle.mm_label.specs.Facts.Fronts.{front_antisym}
+use Rattle.mm_label.specs.Facts.Order.{other_label, same_label}
+use Rattle.mm_label.specs.Facts.Children.{same_child}
 use Rattle.mm_fragment.proofs.children.full_child.Goals as goal
 
 pub returns-then-eq : goal.returns-then-eq

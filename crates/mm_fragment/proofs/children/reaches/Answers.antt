@@ -6,7 +6,7 @@ use Rattle.mm_fragment.proofs.children.reaches.Goals as goal
 
 pub returns-in-Some : goal.returns-in-Some
 returns-in-Some c = λ a.
-    subst (λ (b : Bool). IsTrue b ↔ Reaches c.args.x.now c.args.answers.now) (sym c.is_front.ensures)
+    subst (λ (b : Bool). IsTrue b ↔ Reaches c.args.x.now c.args.answers.now) (sym c.is_prefix.ensures.front)
     (reaches_of c.args.x.now c.args.answers.now c.count_before.result (Some c.in-Some.first.now) a (c.count_before.ensures a) c.in-Some.ensures)
 
 pub returns-in-None : goal.returns-in-None

@@ -1,5 +1,5 @@
 use Rattle.std.proofs.Common.{arith, subst}
-use Rattle.mm_fragment.proofs.Keeping.{kept_along}
+use Rattle.mm_lists.specs.Facts.Keeping.{kept_along}
 use Rattle.mm_fragment.proofs.Rounds.{Gathered, gathered_first, gathered_more, gathered_ended, gathered_bound, gathered_room, within_some}
 use Rattle.mm_fragment.proofs.gathering.gather.Goals as goal
 

@@ -2,7 +2,7 @@ use Rattle.std.proofs.Common.{arith, ◌<◌}
 use Rattle.mm_fragment.specs.Bound.{full_count}
 use Rattle.mm_fragment.specs.Matching.{matches_of, open_nodes}
 use Rattle.mm_fragment.specs.Showing.{named_in}
-use Rattle.mm_fragment.proofs.Keeping.{kept_along}
+use Rattle.mm_lists.specs.Facts.Keeping.{kept_along}
 use Rattle.mm_fragment.proofs.Words.{matches_more, matches_ended, next_bit, pairs_more, cost_part, cost_next}
 use Rattle.mm_fragment.proofs.gathering.matches.Goals as goal
 

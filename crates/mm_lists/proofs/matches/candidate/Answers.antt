@@ -1,11 +1,13 @@
 use Rattle.std.proofs.Common.{arith, sym, subst, List, [], inl, inr, eq-eqb, ap, ◌∙◌, ◌≡◌, ℕ, get_or, take, ◌++◌, ◌∷◌}
 use Rattle.std.proofs.lemmas.Bool.{cases_lt, eqb-true}
+use Rattle.std.proofs.lemmas.List.{get_or_default}
 use Rattle.mm_tree.specs.Search.{list_of, lists_of, worded}
-use Rattle.mm_lists.specs.Fronts.{Label, Word, IsCandidate, or_empty, Meets, Within}
-use Rattle.mm_lists.proofs.Segments.{formed}
-use Rattle.mm_lists.proofs.Candidates.{candidate_first}
-use Rattle.mm_lists.proofs.Listed.{get_same, listed_whole, lists_more, full_at}
-use Rattle.mm_lists.proofs.Keeping.{kept_along, kept_same}
+use Rattle.mm_label.specs.Fronts.{Label, Meets, Within}
+use Rattle.mm_lists.specs.Full.{Word, IsCandidate, or_empty}
+use Rattle.mm_lists.specs.Facts.Formed.{formed}
+use Rattle.mm_lists.specs.Facts.Candidates.{candidate_first}
+use Rattle.mm_lists.specs.Facts.Listed.{listed_whole, lists_more, full_at}
+use Rattle.mm_lists.specs.Facts.Keeping.{kept_along, kept_same}
 use Rattle.mm_lists.proofs.matches.candidate.Goals as goal
 
 pub loop-i-init : goal.loop-i-init
@@ -31,7 +33,7 @@ loop-i-preserved g c = record {
     | inr q ↦ let m = c.loop-i.invariant.before q in let t = c.narrow_at.ensures.skipped (eq-eqb c.loop-i.i c.args.own (omega arith)) in omega arith
   ];
   value = λ f w s n h.
-      let e : c.index-words-i.result ≡ get_or c.args.words.now c.loop-i.i [] = c.index-words-i.is ∙ get_same c.args.words.now c.loop-i.i c.index-words-i.result [] c.loop-i-test.true in
+      let e : c.index-words-i.result ≡ get_or c.args.words.now c.loop-i.i [] = c.index-words-i.is ∙ get_or_default c.args.words.now c.loop-i.i c.index-words-i.result [] c.loop-i-test.true in
       subst (λ (ls : List (List Label)). IsCandidate ls c.args.v.now (or_empty c.in_ok-x.x))
       (ap (λ (q : Word). lists_of (take c.loop-i.i c.args.words.now) (worded f) ++ list_of q (worded f) ∷ []) e ∙ sym (lists_more c.args.words.now c.loop-i.i (worded f) c.loop-i-test.true))
       (c.in_ok-x.ensures.value f _ ((c.loop-i.invariant.kept f).0 s)

@@ -1,4 +1,4 @@
-use Rattle.mm_lists.proofs.Candidates.{candidate_own}
+use Rattle.mm_lists.specs.Facts.Candidates.{candidate_own}
 use Rattle.mm_lists.proofs.matches.narrow_at.Goals as goal
 
 pub returns-then-skip-clause-value : goal.returns-then-skip-clause-value

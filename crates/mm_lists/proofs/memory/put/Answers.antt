@@ -2,7 +2,8 @@ use Rattle.std.proofs.Common.{◌≡◌, List, Some, cond, subst, refl}
 use Rattle.std.specs.BTreeMap.{BTreeMap, get}
 use Rattle.std.specs.Ordering.{nat_cmp, is_eq}
 use Rattle.std.specs.Cmp.Lexicographic.{slice_cmp}
-use Rattle.mm_lists.specs.Fronts.{Label, Word}
+use Rattle.mm_label.specs.Fronts.{Label}
+use Rattle.mm_lists.specs.Full.{Word}
 use Rattle.std.specs.Prelude.{IsSome}
 use Rattle.mm_lists.proofs.Gathering.{put_is, found_list, no_list}
 use Rattle.mm_lists.proofs.memory.put.Goals as goal

@@ -6,7 +6,8 @@ use Rattle.std.specs.Ordering.{nat_cmp}
 use Rattle.std.specs.Cmp.Lexicographic.{slice_cmp}
 use Rattle.std.specs.Vec.Iter.{into_iter_items, into_iter_len}
 use Rattle.mm_tree.specs.Search.{own}
-use Rattle.mm_lists.specs.Fronts.{Label, Word}
+use Rattle.mm_label.specs.Fronts.{Label}
+use Rattle.mm_lists.specs.Full.{Word}
 use Rattle.mm_lists.specs.Memory.{list_in}
 use Rattle.mm_lists.proofs.Gathering.{put_first, same_any, fewer_left, tail_rises}
 use Rattle.mm_lists.proofs.memory.put_words.Goals as goal

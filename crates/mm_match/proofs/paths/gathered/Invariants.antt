@@ -1,5 +1,5 @@
 use Rattle.std.proofs.Common.{◌≡◌, None, drop}
-use Rattle.mm_match.specs.Fronts.{Label}
+use Rattle.mm_label.specs.Fronts.{Label}
 use Rattle.mm_match.specs.Passing.{gathered, mask_in}
 use Rattle.mm_match.proofs.paths.gathered.Given as goal
 

@@ -1,8 +1,8 @@
-use Rattle.std.proofs.Common.{◌∙◌, ◌<◌, ap, sym, subst, length, Option, Some, ℕ}
-use Rattle.mm_match.specs.Fronts.{Label, named, parent}
+use Rattle.std.proofs.Common.{◌∙◌, ◌<◌, ap, sym, subst, length, Option, Some}
+use Rattle.mm_label.specs.Fronts.{Label, named, parent}
 use Rattle.mm_match.specs.Passing.{mask_in, or_above, or_empty}
-use Rattle.mm_match.proofs.FrontLaws.{front_refl, front_trans}
-use Rattle.mm_match.proofs.ParentFacts.{label_some, label_whole, named_some, parent_front, parent_shorter, parent_whole}
+use Rattle.mm_label.specs.Facts.Fronts.{front_refl, front_trans}
+use Rattle.mm_label.specs.Facts.Parents.{label_some, label_whole, named_some, parent_front, parent_shorter, parent_whole}
 use Rattle.mm_match.proofs.PathFacts.{Stands, so_far, starts, ends, goes_on, stands_at, shorter_at, not_empty}
 use Rattle.mm_match.proofs.paths.let_in.Goals as goal
 

@@ -2,7 +2,7 @@ use Rattle.std.proofs.Common.{◌≡◌, sym, subst, List}
 use Rattle.std.specs.Prelude.{◌↔◌}
 use Rattle.std.proofs.lemmas.Result.{IfOk-weaker}
 use Rattle.mm_match.specs.declared.mark.Mark.{Mark}
-use Rattle.mm_match.specs.Fronts.{Label, Ascends, Within}
+use Rattle.mm_label.specs.Fronts.{Label, Ascends, Within}
 use Rattle.mm_match.specs.Marks.{InMarks, IsOnPath, labels, mask_at}
 use Rattle.mm_match.proofs.Listing.{ascends, on_path, words}
 use Rattle.mm_match.proofs.paths.masks.Goals as goal

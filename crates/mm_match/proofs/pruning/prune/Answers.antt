@@ -1,5 +1,5 @@
 use Rattle.std.proofs.Common.{◌∙◌, arith}
-use Rattle.mm_match.specs.Fronts.{named, parent}
+use Rattle.mm_label.specs.Fronts.{named, parent}
 use Rattle.mm_match.proofs.Siblings.{beaten_is, thin_next}
 use Rattle.mm_match.proofs.Thinning.{thin_all}
 use Rattle.mm_match.proofs.pruning.prune.Goals as goal

@@ -1,5 +1,5 @@
 use Rattle.std.proofs.Common.{◌&&◌, ◌||◌, ◌∙◌, ap, Option}
-use Rattle.mm_match.specs.Fronts.{Label, named, parent}
+use Rattle.mm_label.specs.Fronts.{Label, named, parent}
 use Rattle.mm_match.specs.Marks.{under}
 use Rattle.mm_match.specs.Passing.{outdone, same_parent}
 use Rattle.mm_match.proofs.Siblings.{any_next}

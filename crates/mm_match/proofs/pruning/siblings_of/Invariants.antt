@@ -1,6 +1,6 @@
 use Rattle.std.proofs.Common.{◌≡◌, ◌&&◌, ◌||◌, ℕ, Option, drop}
 use Rattle.std.specs.List.{list_any}
-use Rattle.mm_match.specs.Fronts.{Label, named, parent}
+use Rattle.mm_label.specs.Fronts.{Label, named, parent}
 use Rattle.mm_match.specs.Marks.{under}
 use Rattle.mm_match.specs.Passing.{outdone, same_parent}
 use Rattle.mm_match.proofs.pruning.siblings_of.Given as goal

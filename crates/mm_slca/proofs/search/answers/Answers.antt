@@ -1,8 +1,9 @@
 use Rattle.std.proofs.Common.{arith, subst, ◌∙◌, ◌≡◌, ◌<◌, length}
 use Rattle.mm_tree.specs.Search.{worded}
 use Rattle.mm_lists.specs.Shortest.{IsShortest}
-use Rattle.mm_lists.proofs.Segments.{formed}
-use Rattle.mm_slca.proofs.Cost.{cost_counts, cost_full, shortest_full, slca_none, steps_whole}
+use Rattle.mm_lists.specs.Facts.Formed.{formed}
+use Rattle.mm_slca.proofs.Cost.{cost_counts, cost_full, slca_none, steps_whole}
+use Rattle.mm_lists.specs.Facts.Shortest.{shortest_full}
 use Rattle.mm_slca.proofs.search.answers.Goals as goal
 
 pub returns-in_err-best-clause-cost : goal.returns-in_err-best-clause-cost

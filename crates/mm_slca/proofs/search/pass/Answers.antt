@@ -1,11 +1,13 @@
 use Rattle.std.proofs.Common.{subst, ap, ◌∙◌, [], get_or, ◌≡◌, Option}
 use Rattle.std.proofs.lemmas.Result.{IfOk-weaker}
+use Rattle.std.proofs.lemmas.List.{get_or_default}
 use Rattle.mm_tree.specs.Search.{list_of, lists_of, worded}
-use Rattle.mm_lists.specs.Fronts.{Label, Word, or_empty}
+use Rattle.mm_label.specs.Fronts.{Label}
+use Rattle.mm_lists.specs.Full.{Word, or_empty}
 use Rattle.mm_lists.specs.Lists.{IsNext}
-use Rattle.mm_lists.proofs.Nearest.{next_match}
-use Rattle.mm_lists.proofs.Segments.{formed}
-use Rattle.mm_lists.proofs.Listed.{get_same, list_ascends}
+use Rattle.mm_lists.specs.Facts.Nearest.{next_match}
+use Rattle.mm_lists.specs.Facts.Formed.{formed}
+use Rattle.mm_lists.specs.Facts.Listed.{list_ascends}
 use Rattle.mm_slca.specs.Walk.{Stands, taken_done, taken_held}
 use Rattle.mm_slca.proofs.Walking.{stands_none, stands_taken, stands_at}
 use Rattle.mm_slca.proofs.search.pass.Goals as goal
@@ -17,7 +19,7 @@ pub returns-in_ok-walk-in-Some-clause-value : goal.returns-in_ok-walk-in-Some-cl
 returns-in_ok-walk-in-Some-clause-value g c = λ f i w s n k.
     let ms = list_of (get_or c.args.words.now c.args.own []) (worded f) in
     let ls = lists_of c.args.words.now (worded f) in
-    let e : c.index-words-own.result ≡ get_or c.args.words.now c.args.own [] = c.index-words-own.is ∙ get_same c.args.words.now c.args.own c.index-words-own.result [] c.requires in
+    let e : c.index-words-own.result ≡ get_or c.args.words.now c.args.own [] = c.index-words-own.is ∙ get_or_default c.args.words.now c.args.own c.index-words-own.result [] c.requires in
     let here = stands_at ls ms i _ _ c.in-Some.v (subst (Stands ls ms i _ _) c.in-Some.is k) in
     IfOk-weaker c.next.result _ _ (λ o h. stands_taken ls ms i _ _ c.in-Some.v _ _ _ _ o (list_ascends [] _ (worded f) (formed f w)) k c.in-Some.is
     (c.in_ok-next-in-Some.ensures.value f w s n here.0)

@@ -1,11 +1,14 @@
 use Rattle.std.proofs.Common.{arith, sym, subst, ap, ◌∙◌, ◌≡◌, ◌+◌, ◌<◌, ℕ, [], List, Option, get_or, length}
+use Rattle.std.proofs.lemmas.List.{get_or_default}
 use Rattle.mm_tree.specs.Search.{list_of, lists_of, worded}
-use Rattle.mm_lists.specs.Fronts.{Label, Word, or_empty, Deepest}
+use Rattle.mm_label.specs.Fronts.{Label}
+use Rattle.mm_lists.specs.Full.{Word, or_empty, Deepest}
 use Rattle.mm_lists.specs.Lists.{head_of}
-use Rattle.mm_lists.proofs.Segments.{formed}
-use Rattle.mm_lists.proofs.Listed.{get_same, full_at}
+use Rattle.mm_lists.specs.Facts.Formed.{formed}
+use Rattle.mm_lists.specs.Facts.Listed.{full_at}
 use Rattle.mm_slca.specs.Walk.{Stands, finished}
-use Rattle.mm_slca.proofs.Cost.{steps_so_far, slca_is}
+use Rattle.mm_lists.specs.Facts.Shortest.{steps_so_far}
+use Rattle.mm_slca.proofs.Cost.{slca_is}
 use Rattle.mm_slca.proofs.Walking.{stands_first, stands_end}
 use Rattle.mm_slca.proofs.search.walk_list.Goals as goal
 
@@ -19,7 +22,7 @@ loop-i-init g c = record {
   value = λ f w s n.
       let ls = lists_of c.args.words.now (worded f) in
       let ms = list_of (get_or c.args.words.now c.args.own []) (worded f) in
-      let e : c.index-words-own.result ≡ get_or c.args.words.now c.args.own [] = c.index-words-own.is ∙ get_same c.args.words.now c.args.own c.index-words-own.result [] c.requires in
+      let e : c.index-words-own.result ≡ get_or c.args.words.now c.args.own [] = c.index-words-own.is ∙ get_or_default c.args.words.now c.args.own c.index-words-own.result [] c.requires in
       let h : c.in_ok-at.at ≡ head_of ms = c.in_ok-at.ensures.value f s ∙ ap (λ (q : Word). head_of (list_of q (worded f))) e in
       subst (λ (d : List Label). Stands ls ms 0 d [] c.in_ok-at.at) (sym c.new.ensures)
       (subst (λ (o : Option Label). Stands ls ms 0 [] [] o) (sym h) (stands_first ls ms n));

@@ -4,7 +4,7 @@ use Rattle.mm_tree.specs.Trees.{Trees}
 use Rattle.mm_tree.specs.Numbering.{Labelled}
 use Rattle.mm_tree.specs.Forests.{is_well_formed}
 use Rattle.mm_tree.specs.Search.{list_of, lists_of, worded}
-use Rattle.mm_lists.specs.Fronts.{Full, or_empty}
+use Rattle.mm_lists.specs.Full.{Full, or_empty}
 use Rattle.mm_slca.specs.Walk.{Stands}
 use Rattle.mm_slca.proofs.search.walk_list.Given as goal
 

@@ -1,0 +1,8 @@
+-- What follows from the definitions, for the proofs of the crates above.
+pub mod Fronts
+pub mod Order
+pub mod Lists
+pub mod Children
+pub mod Parents
+pub mod Levels
+pub mod Places

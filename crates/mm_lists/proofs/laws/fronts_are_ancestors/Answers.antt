@@ -1,5 +1,0 @@
-use Rattle.mm_lists.proofs.Ties.{ancestor_of, front_of}
-use Rattle.mm_lists.proofs.laws.fronts_are_ancestors.Goals as goal
-
-pub returns : goal.returns
-returns c = λ a b. (ancestor_of a b, front_of a b)

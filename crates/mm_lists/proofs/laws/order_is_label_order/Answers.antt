@@ -1,5 +1,0 @@
-use Rattle.mm_lists.proofs.Ties.{le_before, le_of}
-use Rattle.mm_lists.proofs.laws.order_is_label_order.Goals as goal
-
-pub returns : goal.returns
-returns c = λ a b. (le_before a b, le_of a b)

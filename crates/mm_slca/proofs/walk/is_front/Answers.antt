@@ -1,5 +1,0 @@
-use Rattle.mm_lists.proofs.Ties.{front_test}
-use Rattle.mm_slca.proofs.walk.is_front.Goals as goal
-
-pub returns : goal.returns
-returns c = front_test _ _ _ c.is_prefix.ensures
