@@ -11,6 +11,3 @@ mod stack;
 mod test;
 
 pub use search::answers;
-
-#[cfg(test)]
-mod tests;

@@ -6,5 +6,4 @@ pub mod Children
 pub mod Gathering
 pub mod Showing
 pub mod Piling
-pub mod Examples
 pub mod Telling

@@ -12,6 +12,3 @@ mod rebuilding;
 mod showing;
 
 pub use calls::fragment;
-
-#[cfg(test)]
-mod tests;

@@ -14,6 +14,3 @@ pub use lists::Lists;
 pub use matches::candidate;
 pub use memory::{MemLists, count_before};
 pub use shortest::{Shortest, find_shortest};
-
-#[cfg(test)]
-mod tests;

@@ -7,6 +7,3 @@ mod search;
 mod walk;
 
 pub use search::answers;
-
-#[cfg(test)]
-mod tests;

@@ -141,6 +141,3 @@ pub fn fragment(alloc: Global, root: &Node, query: &Query) -> Result<Fragment, A
     let children = pick(alloc, root.children.as_slice(), query.words())?;
     show(alloc, root, children, query.words())
 }
-
-#[cfg(test)]
-mod tests;

@@ -210,4 +210,4 @@ impl Forest {
 #[cfg(test)]
 mod edit_tests;
 #[cfg(test)]
-pub mod tests;
+mod tests;

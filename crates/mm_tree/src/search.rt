@@ -131,6 +131,3 @@ pub fn slca(alloc: Global, forest: &Forest, query: &Query) -> Result<Items<Label
     let _ = search(alloc, forest.trees(), query.words(), &mut answers)?;
     Ok(answers)
 }
-
-#[cfg(test)]
-mod tests;

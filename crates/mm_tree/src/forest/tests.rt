@@ -13,7 +13,7 @@ use mm_list::Items;
 use std::alloc::{AllocError, Global};
 use std::test::Fail;
 
-pub fn element(alloc: Global, name: &str, children: Vec<Plain>) -> Result<Plain, AllocError>
+fn element(alloc: Global, name: &str, children: Vec<Plain>) -> Result<Plain, AllocError>
     ensures { IfOk result (λ t. tree_of t ≡ (Element name.now [], trees_of children.items)) }
 {
     Ok(Plain {
@@ -36,7 +36,7 @@ pub fn words(alloc: Global, text: &str) -> Result<Plain, AllocError>
     })
 }
 
-pub fn titled(alloc: Global, name: &str, text: &str) -> Result<Plain, AllocError>
+fn titled(alloc: Global, name: &str, text: &str) -> Result<Plain, AllocError>
     ensures { IfOk result (λ t. one (tree_of t) ≡ titled name.now text.now none) }
 {
     let mut inner = Vec::new(alloc);

@@ -94,6 +94,3 @@ pub fn elca(alloc: Global, forest: &Forest, query: &Query) -> Result<Items<Label
     let _ = search_owners(alloc, forest.trees(), query.words(), &mut answers)?;
     Ok(answers)
 }
-
-#[cfg(test)]
-mod tests;
