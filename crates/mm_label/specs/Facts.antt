@@ -5,6 +5,7 @@ pub mod Members
 pub mod Ordered
 pub mod Lists
 pub mod Children
+pub mod Tests
 pub mod Parents
 pub mod Levels
 pub mod Places
