@@ -9,7 +9,8 @@ use Rattle.mm_label.specs.Label.{IsLabel, IsBefore}
 use Rattle.mm_label.specs.Fronts.{Label, Front, is_front, Within, Ascends, same, parent}
 use Rattle.mm_label.specs.Facts.Fronts.{front_refl, front_trans, front_antisym, front_le, front_yes, is_front_of, le_antisym, same_is, same_of}
 use Rattle.mm_label.specs.Facts.Order.{before_lt, lt_before}
-use Rattle.mm_label.specs.Facts.Lists.{contains_of, within_of, meets_above}
+use Rattle.mm_label.specs.Facts.Lists.{meets_above}
+use Rattle.mm_label.specs.Facts.Members.{contains_of, within_of}
 use Rattle.mm_label.specs.Facts.Parents.{front_length, parent_front, parent_whole, parent_shorter, up, label_some, label_whole}
 use Rattle.mm_match.specs.declared.mark.Mark.{Mark}
 use Rattle.mm_match.specs.Marks.{labels, InMarks, IsOnPath, under, is_rival, is_beaten, survives, kept}
