@@ -25,18 +25,18 @@ two_forms bytes t s = elim (or_cases (is_document s.0 s.1) (is_text s.0 s.1) s.2
   | inr h ↦ inr (s.0, s.1, s.2, h)
 ]
 
-document_outside : (first : Option Declaration) (ts : List Token) → is_document first ts ≡ true → outside true 0 ts ≡ true
+pub document_outside : (first : Option Declaration) (ts : List Token) → is_document first ts ≡ true → outside true 0 ts ≡ true
 document_outside None ts h = h
 document_outside (Some d) ts h = (and_parts (is_declaration d) (outside true 0 ts) h).1
 
-text_textual : (first : Option Declaration) (ts : List Token) → is_text first ts ≡ true → list_all is_textual ts ≡ true
+pub text_textual : (first : Option Declaration) (ts : List Token) → is_text first ts ≡ true → list_all is_textual ts ≡ true
 text_textual None ts h = h
 text_textual (Some d) ts h = absurd cc
 
-blank_more : (run : List ℕ) (c : ℕ) → list_all is_space run ≡ true → is_space c ≡ true → list_all is_space (run ++ c ∷ []) ≡ true
+pub blank_more : (run : List ℕ) (c : ℕ) → list_all is_space run ≡ true → is_space c ≡ true → list_all is_space (run ++ c ∷ []) ≡ true
 blank_more run c h k = list_all-append is_space run (c ∷ []) ∙ and_from _ _ h (and_from (is_space c) true k refl)
 
-blank_text : (run : List ℕ) → list_all is_space run ≡ true → text_brackets run ≡ []
+pub blank_text : (run : List ℕ) → list_all is_space run ≡ true → text_brackets run ≡ []
 blank_text run h = ap (λ b. cond b [] (Begin (Words (encode_utf8_all run)) ∷ End [] ∷ [])) h
 
 -- no text stands outside an element, unless it is blank
@@ -51,7 +51,7 @@ blank_outside (Start empty name ws gap ∷ ts) run before blank o t = absurd cc
 blank_outside (Close name gap ∷ ts) run before blank o t = absurd cc
 blank_outside (Doctype gap name ext after ∷ ts) run before blank o t = absurd cc
 
-nothing_there : (kind : Kind) (ps : List Bracket) → [] ≡ Begin kind ∷ ps → ⊥
+pub nothing_there : (kind : Kind) (ps : List Bracket) → [] ≡ Begin kind ∷ ps → ⊥
 nothing_there kind ps e = cc
 
 -- no bytes are and_parts

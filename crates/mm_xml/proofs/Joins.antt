@@ -142,7 +142,7 @@ squares n (Start empty name attributes gap ∷ ts) = squares 0 ts
 squares n (Close name gap ∷ ts) = squares 0 ts
 squares n (Doctype gap name ext after ∷ ts) = squares 0 ts
 
-unbroken_append : (n : ℕ) (xs ys : List Token) → unbroken n (xs ++ ys) ≡ (unbroken n xs && unbroken (squares n xs) ys)
+pub unbroken_append : (n : ℕ) (xs ys : List Token) → unbroken n (xs ++ ys) ≡ (unbroken n xs && unbroken (squares n xs) ys)
 unbroken_append n [] ys = refl
 unbroken_append n (Data (Literal c) ∷ ts) ys =
     elim (eqb c 93) as (λ b. cond b (unbroken (n + 1) (ts ++ ys)) (not (eqb c 62 && leb 2 n) && unbroken 0 (ts ++ ys)) ≡ (cond b (unbroken (n + 1) ts) (not (eqb c 62 && leb 2 n) && unbroken 0 ts) && unbroken (squares (cond b (n + 1) 0) ts) ys)) [

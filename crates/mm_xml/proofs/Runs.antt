@@ -20,15 +20,15 @@ no_text = ([], no_part, refl, refl)
 
 -- ---- character data
 
-abbrev literals : List ℕ → List Token
+abbrev pub literals : List ℕ → List Token
 literals [] = []
 literals (c ∷ cs) = Data (Literal c) ∷ literals cs
 
-literals_spelled : (cs : List ℕ) → flat_map spelled (literals cs) ≡ cs
+pub literals_spelled : (cs : List ℕ) → flat_map spelled (literals cs) ≡ cs
 literals_spelled [] = refl
 literals_spelled (c ∷ cs) = ap (λ (x : List ℕ). c ∷ x) (literals_spelled cs)
 
-literals_text : (cs : List ℕ) → flat_map text_of (literals cs) ≡ cs
+pub literals_text : (cs : List ℕ) → flat_map text_of (literals cs) ≡ cs
 literals_text [] = refl
 literals_text (c ∷ cs) = ap (λ (x : List ℕ). c ∷ x) (literals_text cs)
 
@@ -40,7 +40,7 @@ literals_textual : (cs : List ℕ) → list_all is_textual (literals cs) ≡ tru
 literals_textual [] = refl
 literals_textual (c ∷ cs) = literals_textual cs
 
-abbrev close_mark : List ℕ
+abbrev pub close_mark : List ℕ
 close_mark = 93 ∷ 93 ∷ 62 ∷ []
 
 -- so many square brackets before the characters
@@ -111,7 +111,7 @@ instruction name cs is plain = (Instruction name cs ∷ [], part_of_one (Instruc
 
 -- ---- one behind the other
 
-text_append : (xs ys : List Token) → flat_map text_of (xs ++ ys) ≡ flat_map text_of xs ++ flat_map text_of ys
+pub text_append : (xs ys : List Token) → flat_map text_of (xs ++ ys) ≡ flat_map text_of xs ++ flat_map text_of ys
 text_append [] ys = refl
 text_append (x ∷ xs) ys = ap (λ (r : List ℕ). text_of x ++ r) (text_append xs ys) ∙ sym (append_assoc (text_of x) (flat_map text_of xs) (flat_map text_of ys))
 

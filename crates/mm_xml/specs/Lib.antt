@@ -16,3 +16,4 @@ pub mod Writing
 pub mod Pending
 pub mod Distinct
 pub mod Passages
+pub mod Parts
