@@ -11,7 +11,7 @@ use Rattle.mm_xml.specs.Lexing.{◌>>=◌, Found}
 use Rattle.mm_xml.specs.Telling.{Sign}
 use Rattle.mm_xml.specs.Passages.{passage_at}
 use Rattle.mm_xml.specs.Machine.{State, Before, finish_step, sign_step, deepest_of, Order, sign_may, sign_next, read_from, read_as}
-use Rattle.mm_xml.specs.Answers.{most_levels}
+use Rattle.mm_xml.specs.Refusals.{most_levels}
 use Rattle.mm_xml.specs.Builds.{AdvanceFails, FinishFails, Finishes, Gives}
 use Rattle.mm_xml.proofs.Spans.{some, no, bind_some}
 use Rattle.mm_xml.proofs.Enough.{read_enough}

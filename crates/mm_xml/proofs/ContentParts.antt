@@ -11,7 +11,7 @@ use Rattle.mm_tree.specs.Characters.{is_space, is_name_start, is_name_char, is_n
 use Rattle.mm_tree.specs.Trees.{Trees, none, node, Tree, one}
 use Rattle.mm_xml.specs.Syntax.{Written, attribute_of, Token, Data, Section, Comment, Instruction, Start, Close, Doctype, is_token, spelled}
 use Rattle.mm_xml.specs.Grammar.{Bracket, Begin, End, text_brackets, brackets, bracketing, is_textual, normal}
-use Rattle.mm_xml.specs.Productions.{lines, PartBy, text_of, is_content, is_end, closes, ends_text, SpellsContent, behind_text, SpellsElement}
+use Rattle.mm_xml.specs.Productions.{with_line_feeds, PartBy, characters_of, is_content, is_end, closes, ends_text, SpellsContent, behind_text, SpellsElement}
 use Rattle.mm_xml.specs.Parts.{SpellsToken, ElementParts, EmptyParts, TagParts, ContentParts, ElementFirst, TextFirst}
 use Rattle.mm_xml.proofs.Whole.{first}
 use Rattle.mm_xml.proofs.Elements.{Cuts, brackets_append, closes_content, inside_closes, run_brackets}
@@ -48,7 +48,7 @@ all_behind p xs ys h = (and_parts _ _ (sym (list_all-append p xs ys) ∙ h)).1
 -- bytes of a token are some
 pub some_bytes : (bytes : List ℕ) (t : Token) (ts : List Token) → PartBy bytes (t ∷ ts) → bytes ≢ []
 unfolding chars
-some_bytes bytes t ts p e = let f = first t in never f.0 (f.1 ++ flat_map spelled ts) (sym (ap lines e) ∙ p.spelled_so ∙ ap (λ (x : List ℕ). x ++ flat_map spelled ts) f.2)
+some_bytes bytes t ts p e = let f = first t in never f.0 (f.1 ++ flat_map spelled ts) (sym (ap with_line_feeds e) ∙ p.spelled_so ∙ ap (λ (x : List ℕ). x ++ flat_map spelled ts) f.2)
   where
     never : (b : ℕ) (r : List ℕ) → [] ≡ b ∷ r → ⊥
     never b r e = cc
@@ -283,7 +283,7 @@ text_first bytes children t ts h p c e =
     let each = and_from (is_textual t) (list_all is_textual x.xs) h x.each in
     let whole : t ∷ ts ≡ xs ++ x.ys = ap (λ (r : List Token). t ∷ r) x.whole in
     let a = part_apart bytes xs x.ys (subst (λ (r : List Token). PartBy bytes r) whole p) in
-    let text = flat_map text_of xs in
+    let text = flat_map characters_of xs in
     let o = others_of text (brackets [] x.ys) children (sym (stop_cuts x.ys x.stop text) ∙ sym (run_brackets xs [] x.ys each) ∙ ap (λ (r : List Token). brackets [] r) (sym whole) ∙ e) in
     record {
       run = a.left;

@@ -12,7 +12,7 @@ use Rattle.mm_tree.specs.Trees.{none, node, Tree, one}
 use Rattle.mm_tree.specs.Validity.{are_chars}
 use Rattle.mm_xml.specs.Syntax.{Literal, Reference, meant, Written, attribute_of, External, Token, Data, Section, Comment, Instruction, Start, Close, Doctype, is_token, spelled, Declaration, is_declaration}
 use Rattle.mm_xml.specs.Grammar.{Bracket, Begin, End, text_brackets, start_brackets, brackets, bracketing, outside, is_inside, is_document, spelled_first, normal, without_mark, characters}
-use Rattle.mm_xml.specs.Productions.{lines, PartBy, is_content, closes, SpellsElement, is_misc, SpellsMisc, is_prolog, SpellsProlog, is_first, is_marked, SpellsDocument}
+use Rattle.mm_xml.specs.Productions.{with_line_feeds, PartBy, is_content, closes, SpellsElement, is_misc, SpellsMisc, is_prolog, SpellsProlog, is_first, is_marked, SpellsDocument}
 use Rattle.mm_xml.specs.Parts.{SpellsCharacters, SpellsToken, IsMark, DocumentParts, DoctypeParts, PrologParts, MoreMisc, MiscParts}
 use Rattle.mm_xml.proofs.EncodingFacts.{encoded_append}
 use Rattle.mm_xml.proofs.Elements.{down, down_text, brackets_append, inside_closes}
@@ -111,7 +111,7 @@ pub record MarkApart (bytes : List ℕ) : Type 0 where
   pub mark_is : IsMark mark
   pub unmarked : mark ≡ [] → is_marked (chars rest) ≡ false
   pub encoded : are_chars rest ≡ true
-  pub same : lines rest ≡ characters bytes
+  pub same : with_line_feeds rest ≡ characters bytes
 
 some_mark : encode_utf8_all (65279 ∷ []) ≡ [] → ⊥
 unfolding chars
@@ -126,7 +126,7 @@ mark_apart bytes h = from (chars bytes) refl
     u : (is_utf8 bytes ≡ true) × (list_all is_char (chars bytes) ≡ true)
     u = and_parts (is_utf8 bytes) (list_all is_char (chars bytes)) h
 
-    plain : is_marked (chars bytes) ≡ false → lines bytes ≡ characters bytes → MarkApart bytes
+    plain : is_marked (chars bytes) ≡ false → with_line_feeds bytes ≡ characters bytes → MarkApart bytes
     plain n e = record { mark = []; rest = bytes; whole = refl; mark_is = inl refl; unmarked = λ k. n; encoded = h; same = e }
 
     marked : (cs : List ℕ) → chars bytes ≡ 65279 ∷ cs → MarkApart bytes

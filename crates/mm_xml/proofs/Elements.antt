@@ -10,8 +10,8 @@ use Rattle.mm_tree.specs.declared.Kind.TheVariants.{Element, Words}
 use Rattle.mm_tree.specs.Characters.{is_space, is_short_name}
 use Rattle.mm_tree.specs.Trees.{Trees, none, node, Tree}
 use Rattle.mm_xml.specs.Syntax.{Literal, Reference, is_literal, meant, Written, spelled_written, attribute_of, Token, Data, Section, Comment, Instruction, Start, Close, Doctype, is_token, spelled}
-use Rattle.mm_xml.specs.Grammar.{Bracket, Begin, End, name_of, text_brackets, start_brackets, brackets, bracketing, is_inside, is_textual, normal}
-use Rattle.mm_xml.specs.Productions.{is_plain, PartBy, text_of, SpellsRun, ends_text, is_content, SpellsContent, behind_text, is_end, fewer, closes, SpellsElement}
+use Rattle.mm_xml.specs.Grammar.{Bracket, Begin, End, end_name, text_brackets, start_brackets, brackets, bracketing, is_inside, is_textual, normal}
+use Rattle.mm_xml.specs.Productions.{is_plain, PartBy, characters_of, SpellsRun, ends_text, is_content, SpellsContent, behind_text, is_end, fewer, closes, SpellsElement}
 use Rattle.mm_xml.proofs.Whole.{first}
 use Rattle.mm_xml.proofs.Joins.{plain_same, no_part, all_append, join_behind, join_markup, join_nothing, BeginsMarkup, part_of_one, start_plain, close_plain, start_ends, closed}
 
@@ -89,8 +89,8 @@ down n (End name ∷ ps) = is_inside n && down (fewer n) ps
 pub down_trees : (ts : Trees Kind) (n : ℕ) (ps : List Bracket) → down n (bracketing ts ++ ps) ≡ down n ps
 down_trees none n ps = refl
 down_trees (node kind inner rest) n ps =
-    ap (λ (qs : List Bracket). down (suc n) qs) (append_assoc (bracketing inner) (End (name_of kind) ∷ bracketing rest) ps)
-    ∙ down_trees inner (suc n) (End (name_of kind) ∷ (bracketing rest ++ ps))
+    ap (λ (qs : List Bracket). down (suc n) qs) (append_assoc (bracketing inner) (End (end_name kind) ∷ bracketing rest) ps)
+    ∙ down_trees inner (suc n) (End (end_name kind) ∷ (bracketing rest ++ ps))
     ∙ down_trees rest n ps
 
 pub down_text : (run : List ℕ) (n : ℕ) (ps : List Bracket) → down n (text_brackets run ++ ps) ≡ down n ps
@@ -179,10 +179,10 @@ tag_first (Doctype gap name ext after ∷ ys) d r each a b e = absurd (second d 
 -- ---- text
 
 -- tokens of a text join the characters before them
-pub run_brackets : (xs : List Token) (run : List ℕ) (ys : List Token) → list_all is_textual xs ≡ true → brackets run (xs ++ ys) ≡ brackets (run ++ flat_map text_of xs) ys
+pub run_brackets : (xs : List Token) (run : List ℕ) (ys : List Token) → list_all is_textual xs ≡ true → brackets run (xs ++ ys) ≡ brackets (run ++ flat_map characters_of xs) ys
 run_brackets [] run ys h = ap (λ (r : List ℕ). brackets r ys) (sym (append-nil run))
-run_brackets (Data p ∷ xs) run ys h = run_brackets xs (run ++ meant p) ys h ∙ ap (λ (r : List ℕ). brackets r ys) (append_assoc run (meant p) (flat_map text_of xs))
-run_brackets (Section cs ∷ xs) run ys h = run_brackets xs (run ++ cs) ys h ∙ ap (λ (r : List ℕ). brackets r ys) (append_assoc run cs (flat_map text_of xs))
+run_brackets (Data p ∷ xs) run ys h = run_brackets xs (run ++ meant p) ys h ∙ ap (λ (r : List ℕ). brackets r ys) (append_assoc run (meant p) (flat_map characters_of xs))
+run_brackets (Section cs ∷ xs) run ys h = run_brackets xs (run ++ cs) ys h ∙ ap (λ (r : List ℕ). brackets r ys) (append_assoc run cs (flat_map characters_of xs))
 run_brackets (Comment cs ∷ xs) run ys h = run_brackets xs run ys h
 run_brackets (Instruction name cs ∷ xs) run ys h = run_brackets xs run ys h
 run_brackets (Start empty name ws gap ∷ xs) run ys h = absurd cc
@@ -253,5 +253,5 @@ element_in_content bytes content t children s c =
       s.0 ++ c.0,
       join_behind bytes content s.0 c.0 s.1 c.1 k.last k.no_square,
       all_append is_content s.0 c.0 (closes_content s.0 0 s.2) c.2,
-      closes_append s.0 0 [] c.0 s.2 ∙ (λ i. s.3 i ++ c.3 i) ∙ append_assoc (Begin t.0 ∷ bracketing t.1) (End (name_of t.0) ∷ []) (bracketing children),
+      closes_append s.0 0 [] c.0 s.2 ∙ (λ i. s.3 i ++ c.3 i) ∙ append_assoc (Begin t.0 ∷ bracketing t.1) (End (end_name t.0) ∷ []) (bracketing children),
     )

@@ -9,7 +9,7 @@ use Rattle.mm_tree.specs.declared.Kind.TheVariants.{Element, Words}
 use Rattle.mm_tree.specs.Characters.{is_space, is_short_name}
 use Rattle.mm_tree.specs.Trees.{Trees, none, node}
 use Rattle.mm_xml.specs.Syntax.{meant, Written, attribute_of, Token, Data, Section, Comment, Instruction, Start, Close, Doctype}
-use Rattle.mm_xml.specs.Grammar.{Bracket, Begin, End, name_of, text_brackets, start_brackets, brackets, bracketing, is_inside}
+use Rattle.mm_xml.specs.Grammar.{Bracket, Begin, End, end_name, text_brackets, start_brackets, brackets, bracketing, is_inside}
 use Rattle.mm_xml.specs.Productions.{is_end, fewer, closes}
 use Rattle.mm_xml.proofs.Attributes.{short_chars}
 use Rattle.mm_xml.proofs.Elements.{down, down_trees, down_text, brackets_append}
@@ -26,8 +26,8 @@ drops n (End name ∷ ps) = not (is_inside n) || drops (fewer n) ps
 drops_trees : (ts : Trees Kind) (n : ℕ) (ps : List Bracket) → drops n (bracketing ts ++ ps) ≡ drops n ps
 drops_trees none n ps = refl
 drops_trees (node kind inner rest) n ps =
-    ap (λ (qs : List Bracket). drops (suc n) qs) (append_assoc (bracketing inner) (End (name_of kind) ∷ bracketing rest) ps)
-    ∙ drops_trees inner (suc n) (End (name_of kind) ∷ (bracketing rest ++ ps))
+    ap (λ (qs : List Bracket). drops (suc n) qs) (append_assoc (bracketing inner) (End (end_name kind) ∷ bracketing rest) ps)
+    ∙ drops_trees inner (suc n) (End (end_name kind) ∷ (bracketing rest ++ ps))
     ∙ drops_trees rest n ps
 
 drops_text : (run : List ℕ) (n : ℕ) (ps : List Bracket) → drops n (text_brackets run ++ ps) ≡ drops n ps
@@ -127,13 +127,13 @@ record FirstNode (kind : Kind) (ps : List Bracket) (children : Trees Kind) : Typ
   inner : Trees Kind
   rest : Trees Kind
   children_are : children ≡ node kind inner rest
-  behind : ps ≡ bracketing inner ++ (End (name_of kind) ∷ bracketing rest)
+  behind : ps ≡ bracketing inner ++ (End (end_name kind) ∷ bracketing rest)
 
 first_node : (children : Trees Kind) (kind : Kind) (ps : List Bracket) → Begin kind ∷ ps ≡ bracketing children → FirstNode kind ps children
 first_node none kind ps e = absurd cc
 first_node (node own inner rest) kind ps e =
     let same = begun kind own ps _ e in
-    record { inner = inner; rest = rest; children_are = ap (λ (k : Kind). node k inner rest) (sym same); behind = ap rest_of e ∙ ap (λ (k : Kind). bracketing inner ++ (End (name_of k) ∷ bracketing rest)) (sym same) }
+    record { inner = inner; rest = rest; children_are = ap (λ (k : Kind). node k inner rest) (sym same); behind = ap rest_of e ∙ ap (λ (k : Kind). bracketing inner ++ (End (end_name k) ∷ bracketing rest)) (sym same) }
   where
     begun : (kind own : Kind) (ps qs : List Bracket) → Begin kind ∷ ps ≡ Begin own ∷ qs → kind ≡ own
     begun kind own ps qs e = cc
@@ -151,7 +151,7 @@ pub record LeafFirst (kind : Kind) (ps : List Bracket) (children : Trees Kind) :
 pub leaf_first : (children : Trees Kind) (kind : Kind) (name : List ℕ) (ps : List Bracket) → Begin kind ∷ End name ∷ ps ≡ bracketing children → LeafFirst kind ps children
 leaf_first children kind name ps e =
     let f = first_node children kind (End name ∷ ps) e in
-    let s = same_place [] (bracketing f.inner) 0 name (name_of kind) ps (bracketing f.rest) refl (balanced f.inner) f.behind in
+    let s = same_place [] (bracketing f.inner) 0 name (end_name kind) ps (bracketing f.rest) refl (balanced f.inner) f.behind in
     record { rest = f.rest; children_are = f.children_are ∙ ap (λ (x : Trees Kind). node kind x f.rest) (no_trees f.inner s.before); behind = s.behind }
 
 -- an element that has a start tag and an end tag

@@ -12,7 +12,7 @@ use Rattle.mm_xml.specs.declared.error.XmlError.TheVariants as error
 use Rattle.mm_xml.specs.Grammar.{Spells, characters, normal}
 use Rattle.mm_xml.specs.Machine.{Order, read_as, read_all}
 use Rattle.mm_xml.specs.Outlines.{outline_as}
-use Rattle.mm_xml.specs.Answers.{IsShallow, IsTooDeep, AnswersFor}
+use Rattle.mm_xml.specs.Refusals.{IsShallow, IsTooDeep, AnswersFor}
 use Rattle.mm_xml.specs.Builds.{FinishFails, Outlines, Reads, Decodes}
 use Rattle.mm_xml.proofs.Spans.{some_is}
 use Rattle.mm_xml.proofs.OutlineFacts.{outline_reads}

@@ -11,7 +11,7 @@ use Rattle.mm_tree.specs.Trees.{none, node, Tree, one}
 use Rattle.mm_xml.specs.Letters.{starts, is_free}
 use Rattle.mm_xml.specs.Syntax.{Literal, Reference, is_literal, Token, Data, Section, Comment, Instruction, Start, Close, Doctype, is_token, spelled, Declaration}
 use Rattle.mm_xml.specs.Grammar.{Bracket, Begin, End, text_brackets, brackets, bracketing, unbroken, is_textual, is_text, spelled_first, SpellsBy, normal}
-use Rattle.mm_xml.specs.Productions.{lines, PartBy, text_of, SpellsRun, ends_run, ends_markup, SpellsText}
+use Rattle.mm_xml.specs.Productions.{with_line_feeds, PartBy, characters_of, SpellsRun, ends_run, ends_markup, SpellsText}
 use Rattle.mm_xml.specs.Parts.{SpellsCharacters, SpellsToken, SpellsCharData, is_markup, MoreText, RunParts, TextParts}
 use Rattle.mm_xml.proofs.Elements.{run_brackets}
 use Rattle.mm_xml.proofs.Forms.{nothing_there}
@@ -84,7 +84,7 @@ literals_free : (cs : List ℕ) → unbroken 0 (literals cs) ≡ true → is_fre
 literals_free [] h = refl
 literals_free (c ∷ cs) h = and_from _ _ (no_close c cs h) (literals_free cs (unbroken_tail c (literals cs) h))
 
-char_data_first : (bytes text : List ℕ) (c : ℕ) (ts : List Token) → PartBy bytes (Data (Literal c) ∷ ts) → list_all is_textual ts ≡ true → flat_map text_of (Data (Literal c) ∷ ts) ≡ text → MoreText bytes text
+char_data_first : (bytes text : List ℕ) (c : ℕ) (ts : List Token) → PartBy bytes (Data (Literal c) ∷ ts) → list_all is_textual ts ≡ true → flat_map characters_of (Data (Literal c) ∷ ts) ≡ text → MoreText bytes text
 char_data_first bytes text c ts p h e =
     let x = plainly ts in
     let cs = c ∷ x.cs in
@@ -93,7 +93,7 @@ char_data_first bytes text c ts p h e =
       first = a.left;
       rest = a.right;
       own = cs;
-      more = flat_map text_of x.ys;
+      more = flat_map characters_of x.ys;
       are_all = a.whole;
       is_there = some_bytes a.left (Data (Literal c)) (literals x.cs) a.left_is;
       first_is = inl (record {
@@ -102,8 +102,8 @@ char_data_first bytes text c ts p h e =
         free = literals_free cs a.left_is.whole;
       });
       rest_is = (x.ys, a.right_is, all_behind is_textual (literals x.cs) x.ys (ap (λ (r : List Token). list_all is_textual r) (sym x.whole) ∙ h), refl);
-      apart = or_left (ends_run (chars a.right)) (ends_markup (lines a.left)) (x.stop a.right a.right_is);
-      text_is = sym e ∙ ap (λ (r : List Token). c ∷ flat_map text_of r) x.whole ∙ ap (λ (r : List ℕ). c ∷ r) (text_append (literals x.cs) x.ys ∙ ap (λ (r : List ℕ). r ++ flat_map text_of x.ys) (literals_text x.cs));
+      apart = or_left (ends_run (chars a.right)) (ends_markup (with_line_feeds a.left)) (x.stop a.right a.right_is);
+      text_is = sym e ∙ ap (λ (r : List Token). c ∷ flat_map characters_of r) x.whole ∙ ap (λ (r : List ℕ). c ∷ r) (text_append (literals x.cs) x.ys ∙ ap (λ (r : List ℕ). r ++ flat_map characters_of x.ys) (literals_text x.cs));
     }
 
 -- ---- markup
@@ -116,20 +116,20 @@ ends_behind : (xs cs : List ℕ) → ends_markup cs ≡ true → ends_markup (xs
 ends_behind [] cs h = h
 ends_behind (x ∷ xs) cs h = ends_more x (xs ++ cs) (ends_behind xs cs h)
 
-markup_first : (bytes text : List ℕ) (t : Token) (ts : List Token) → is_markup t ≡ true → ends_markup (spelled t) ≡ true → PartBy bytes (t ∷ ts) → list_all is_textual ts ≡ true → flat_map text_of (t ∷ ts) ≡ text → MoreText bytes text
+markup_first : (bytes text : List ℕ) (t : Token) (ts : List Token) → is_markup t ≡ true → ends_markup (spelled t) ≡ true → PartBy bytes (t ∷ ts) → list_all is_textual ts ≡ true → flat_map characters_of (t ∷ ts) ≡ text → MoreText bytes text
 markup_first bytes text t ts m ends p h e =
     let a = part_apart bytes (t ∷ []) ts p in
     let one = one_token a.left t a.left_is in
     record {
       first = a.left;
       rest = a.right;
-      own = text_of t;
-      more = flat_map text_of ts;
+      own = characters_of t;
+      more = flat_map characters_of ts;
       are_all = a.whole;
       is_there = some_bytes a.left t [] a.left_is;
       first_is = inr (t, m, one, refl);
       rest_is = (ts, a.right_is, h, refl);
-      apart = or_right (ends_run (chars a.right)) (ends_markup (lines a.left)) (ap ends_markup one.characters.spelled_so ∙ ends);
+      apart = or_right (ends_run (chars a.right)) (ends_markup (with_line_feeds a.left)) (ap ends_markup one.characters.spelled_so ∙ ends);
       text_is = sym e;
     }
 
@@ -138,7 +138,7 @@ markup_first bytes text t ts m ends p h e =
 pub run_parts : (bytes text : List ℕ) → SpellsRun bytes text → RunParts bytes text
 run_parts bytes text s = from s.0 s.1 s.2 s.3
   where
-    from : (ts : List Token) → PartBy bytes ts → list_all is_textual ts ≡ true → flat_map text_of ts ≡ text → RunParts bytes text
+    from : (ts : List Token) → PartBy bytes ts → list_all is_textual ts ≡ true → flat_map characters_of ts ≡ text → RunParts bytes text
     from [] p h e = inl (no_bytes bytes p, sym e)
     from (Data (Literal c) ∷ ts) p h e = inr (char_data_first bytes text c ts p h e)
     from (Data (Reference body) ∷ ts) p h e = inr (markup_first bytes text (Data (Reference body)) ts refl (ends_behind (38 ∷ body) (59 ∷ []) refl) p h e)
@@ -177,7 +177,7 @@ text_parts bytes t s = from s.0 s.2 s.3
     from : (first : Option Declaration) → SpellsBy bytes t first s.1 → is_text first s.1 ≡ true → TextParts bytes t
     from None by h =
         let m = mark_apart bytes by.encoded in
-        let text = flat_map text_of s.1 in
+        let text = flat_map characters_of s.1 in
         let k = inked text t (sym (run_brackets s.1 [] [] h) ∙ ap (λ (x : List Token). brackets [] x) (no_more s.1) ∙ by.by.tree_is) in
         record {
           mark = m.mark;

@@ -11,7 +11,7 @@ pub mod Numbers
 pub mod Outlines
 pub mod Lexemes
 pub mod Builds
-pub mod Answers
+pub mod Refusals
 pub mod Writing
 pub mod Pending
 pub mod Distinct

@@ -10,14 +10,14 @@ use Rattle.mm_tree.specs.Characters.{is_char, is_space, is_name, is_short_name}
 use Rattle.mm_xml.specs.Letters.{is_free, is_gap, referred}
 use Rattle.mm_xml.specs.Syntax.{Literal, Reference, is_literal, is_some, not_semicolon, is_rest, is_reserved, is_quote, is_within, spelled_part, Written, is_written, spelled_written, attribute_of, differ, External, is_external, spelled_external, ending, Token, Data, Section, Comment, Instruction, Start, Close, Doctype, is_token, spelled, Declaration}
 use Rattle.mm_xml.specs.Grammar.{spelled_first}
-use Rattle.mm_xml.specs.Productions.{lines, text_of, SpellsRun, ends_run, ends_markup, ends_text, SpellsContent, behind_text, SpellsElement, is_misc, SpellsMisc, SpellsProlog, is_first, is_marked}
+use Rattle.mm_xml.specs.Productions.{with_line_feeds, characters_of, SpellsRun, ends_run, ends_markup, ends_text, SpellsContent, behind_text, SpellsElement, is_misc, SpellsMisc, SpellsProlog, is_first, is_marked}
 
 -- ---- characters and tokens
 
 -- the bytes are UTF-8 of Chars, which once their line ends are turned are these characters
 pub record SpellsCharacters (bytes : List ℕ) (cs : List ℕ) : Type 0 where
   pub encoded : IsTrue (are_chars bytes)
-  pub spelled_so : lines bytes ≡ cs
+  pub spelled_so : with_line_feeds bytes ≡ cs
 
 -- the bytes spell one token: a tag, a reference, a section, a comment, an instruction, a document type or a character
 pub record SpellsToken (bytes : List ℕ) (t : Token) : Type 0 where
@@ -157,7 +157,7 @@ is_markup t = false
 
 -- one of these, and the characters that it adds to the text
 abbrev pub SpellsMarkup : List ℕ → List ℕ → Type 0
-SpellsMarkup bytes text = (t : Token) × IsTrue (is_markup t) × SpellsToken bytes t × (text ≡ text_of t)
+SpellsMarkup bytes text = (t : Token) × IsTrue (is_markup t) × SpellsToken bytes t × (text ≡ characters_of t)
 
 -- character data as far as it goes, or a piece of markup, and then a text
 pub record MoreText (bytes : List ℕ) (text : List ℕ) : Type 0 where
@@ -169,7 +169,7 @@ pub record MoreText (bytes : List ℕ) (text : List ℕ) : Type 0 where
   pub is_there : first ≢ []
   pub first_is : SpellsCharData first own ⊎ SpellsMarkup first own
   pub rest_is : SpellsRun rest more
-  pub apart : IsTrue (ends_run (chars rest) || ends_markup (lines first))
+  pub apart : IsTrue (ends_run (chars rest) || ends_markup (with_line_feeds first))
   pub text_is : text ≡ own ++ more
 
 abbrev pub RunParts : List ℕ → List ℕ → Type 0

@@ -17,7 +17,7 @@ ghost use Rattle.mm_tree.specs.Validity.{is_valid_node, is_valid_tree};
 ghost use Rattle.mm_xml.specs.Letters.{referred, is_free};
 ghost use Rattle.mm_xml.specs.Syntax.{is_literal, not_semicolon, Reference, Written, is_written, spelled_written, attribute_of, External, Token, Data, Section, Comment, Instruction, Start, Close, Doctype, is_token, spelled, Declaration};
 ghost use Rattle.mm_xml.specs.Grammar.{spelled_first, Spells};
-ghost use Rattle.mm_xml.specs.Productions.{is_plain, lines, SpellsRun, ends_run, ends_markup, ends_text, SpellsContent, behind_text, SpellsElement, is_misc, SpellsMisc, SpellsProlog, is_first, is_marked, SpellsDocument, SpellsText};
+ghost use Rattle.mm_xml.specs.Productions.{is_plain, with_line_feeds, SpellsRun, ends_run, ends_markup, ends_text, SpellsContent, behind_text, SpellsElement, is_misc, SpellsMisc, SpellsProlog, is_first, is_marked, SpellsDocument, SpellsText};
 ghost use Rattle.mm_xml.specs.Parts.{SpellsCharacters, SpellsToken, DocumentParts, PrologParts, MiscParts, ElementParts, ContentParts, RunParts, TextParts, ReferenceParts, SectionParts, CommentParts, InstructionParts, SpellsAttributes, StartParts, EndParts, MoreAttributes, AttributeParts, TypeParts};
 ghost use Rattle.mm_xml.specs.Writing.{written, without_labels, are_apart, is_marked_text};
 
@@ -108,7 +108,7 @@ pub fn instruction()
 
 /// Texts behind one another are one text, where no run of CharData goes on from one to the other.
 pub fn joined_text()
-    ensures { (a b text more : List ℕ) → SpellsRun a text → SpellsRun b more → IsTrue (ends_run (chars b) || ends_markup (lines a)) → SpellsRun (a ++ b) (text ++ more) }
+    ensures { (a b text more : List ℕ) → SpellsRun a text → SpellsRun b more → IsTrue (ends_run (chars b) || ends_markup (with_line_feeds a)) → SpellsRun (a ++ b) (text ++ more) }
 {}
 
 /// An element is an EmptyElemTag.

@@ -1,7 +1,7 @@
 ghost use Rattle.std.specs.Prelude.{◌≡◌, ◌≤◌, nat_lt};
 ghost use Rattle.std.specs.List.{list_all, prefix_len};
 ghost use Rattle.std.specs.Str.{chars};
-ghost use Rattle.mm_xml.specs.Letters.{referred as referred_by, by_name as by_name_is, by_number as by_number_is, numbered as numbered_is, is_digits as digits_are, digit as digit_is, number as number_is};
+ghost use Rattle.mm_xml.specs.Letters.{referred as referred_by, by_name as by_name_is, by_number as by_number_is, numbered as numbered_is, is_digits as digits_are, digit as digit_is, digits_value as number_is};
 ghost use Rattle.mm_xml.specs.Syntax.{not_semicolon, is_literal as literal_is};
 ghost use Rattle.mm_xml.specs.Lexing.{span, part_at, reference_at};
 ghost use Rattle.mm_xml.specs.Telling.{tell_part};
