@@ -6,8 +6,8 @@ use Rattle.mm_tree.specs.declared.Kind.{Kind}
 use Rattle.mm_tree.specs.Trees.{Trees, none, node, Tree, siblings}
 use Rattle.mm_xml.specs.Grammar.{Bracket, Begin, End, end_name, bracketing}
 use Rattle.mm_tree.specs.Trees.{one}
-use Rattle.mm_xml.specs.Lexing.{◌>>=◌}
-use Rattle.mm_xml.specs.Machine.{Frame, State, Before, Inside, After, fresh, with_child, frame_tree, closed, place, place_all, finished, build}
+use Rattle.mm_xml.specs.Inside.Lexing.{◌>>=◌}
+use Rattle.mm_xml.specs.Inside.Machine.{Frame, State, Before, Inside, After, fresh, with_child, frame_tree, closed, place, place_all, finished, build}
 
 -- ---- what is closed completely is read
 

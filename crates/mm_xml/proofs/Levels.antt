@@ -10,10 +10,10 @@ use Rattle.mm_tree.specs.Trees.{none, Tree, siblings, one, levels}
 use Rattle.mm_xml.specs.declared.error.XmlError.{XmlError}
 use Rattle.mm_xml.specs.declared.error.XmlError.TheVariants as error
 use Rattle.mm_xml.specs.Grammar.{Begin, End, end_name}
-use Rattle.mm_xml.specs.Lexing.{◌>>=◌}
-use Rattle.mm_xml.specs.Telling.{Sign, Character, Named, Passage, Skipped, Opens, Closes, Doctyped, sign_at}
-use Rattle.mm_xml.specs.Machine.{State, Before, Inside, After, fresh, with_child, frame_tree, place, finished, cleared, leaf_at, text_step, open_step, sign_step, depth_of, deepest_of, Order, sign_may, sign_next, read_from}
-use Rattle.mm_xml.specs.Builds.{Steps, MovesTo, Places, PlaceFails, IsPlaced}
+use Rattle.mm_xml.specs.Inside.Lexing.{◌>>=◌}
+use Rattle.mm_xml.specs.Inside.Telling.{Sign, Character, Named, Passage, Skipped, Opens, Closes, Doctyped, sign_at}
+use Rattle.mm_xml.specs.Inside.Machine.{State, Before, Inside, After, fresh, with_child, frame_tree, place, finished, cleared, leaf_at, text_step, open_step, sign_step, depth_of, deepest_of, Order, sign_may, sign_next, read_from}
+use Rattle.mm_xml.specs.Inside.Builds.{Steps, MovesTo, Places, PlaceFails, IsPlaced}
 use Rattle.mm_xml.proofs.Spans.{some_is, bind_some, taken}
 
 levels_more : (xs : List (Tree Kind)) (t : Tree Kind) → levels (siblings (xs ++ t ∷ [])) ≡ max (levels (siblings xs)) (1 + levels t.1)

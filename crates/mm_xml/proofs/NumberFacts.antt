@@ -4,7 +4,7 @@ use Rattle.std.proofs.Math.Nat.{mul-le-mul_right}
 use Rattle.std.proofs.lemmas.Bool.{leb-true}
 use Rattle.std.proofs.lemmas.Bool.Decides.{nat_tests}
 use Rattle.mm_xml.specs.Letters.{digits_value, digit}
-use Rattle.mm_xml.specs.Numbers.{capped}
+use Rattle.mm_xml.specs.Inside.Numbers.{capped}
 
 at_least : (base n : ℕ) → 1 ≤ base → 1114112 ≤ n → 1114112 ≤ base * n
 at_least base n h le = omega (arith, mul-le-mul_right {m = 1} {n = base} n h)

@@ -9,13 +9,13 @@ use Rattle.mm_tree.specs.declared.Kind.TheVariants.{Words}
 use Rattle.mm_tree.specs.Characters.{is_space}
 use Rattle.mm_tree.specs.Trees.{Tree}
 use Rattle.mm_xml.specs.Grammar.{Begin, End, end_name}
-use Rattle.mm_xml.specs.Lexing.{◌>>=◌, Found}
-use Rattle.mm_xml.specs.Telling.{Sign, Character, Named, Passage, Skipped, Opens, Closes, Doctyped, sign_at}
-use Rattle.mm_xml.specs.Machine.{Frame, State, Before, Inside, After, with_child, frame_tree, place, finished, cleared, leaf_at, text_step, open_step, start_step, end_step, finish_step, sign_step, Order, sign_may, sign_next, read_from, read_as}
-use Rattle.mm_xml.specs.Outlines.{Outlined, outlined, is_over, outline_begin, outline_end, outline_leaf, outline_text, outline_open, outline_start, outline_finish, outline_cleared, outline_step, outline_ends, holds, outline_from, outline_as}
+use Rattle.mm_xml.specs.Inside.Lexing.{◌>>=◌, Found}
+use Rattle.mm_xml.specs.Inside.Telling.{Sign, Character, Named, Passage, Skipped, Opens, Closes, Doctyped, sign_at}
+use Rattle.mm_xml.specs.Inside.Machine.{Frame, State, Before, Inside, After, with_child, frame_tree, place, finished, cleared, leaf_at, text_step, open_step, start_step, end_step, finish_step, sign_step, Order, sign_may, sign_next, read_from, read_as}
+use Rattle.mm_xml.specs.Inside.Outlines.{Outlined, outlined, is_over, outline_begin, outline_end, outline_leaf, outline_text, outline_open, outline_start, outline_finish, outline_cleared, outline_step, outline_ends, holds, outline_from, outline_as}
 use Rattle.std.specs.Borrow.{Bor}
 use Rattle.mm_xml.specs.declared.lexeme.Lexeme.{Lexeme}
-use Rattle.mm_xml.specs.Lexemes.{sign_of, Finds}
+use Rattle.mm_xml.specs.Inside.Lexemes.{sign_of, Finds}
 use Rattle.mm_xml.proofs.Spans.{some, some_is}
 use Rattle.mm_xml.proofs.Enough.{read_enough}
 

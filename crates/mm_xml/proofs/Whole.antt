@@ -11,10 +11,10 @@ use Rattle.mm_tree.specs.Characters.{is_space}
 use Rattle.mm_tree.specs.Trees.{none, Tree, one}
 use Rattle.mm_xml.specs.Syntax.{Declaration, is_declaration, Literal, Reference, attribute_of, Token, Data, Section, Comment, Instruction, Start, Close, Doctype, is_token, spelled}
 use Rattle.mm_xml.specs.Grammar.{Bracket, Begin, End, end_name, text_brackets, start_brackets, brackets, unbroken, outside, is_textual, bracketing, is_document, has_form, spelled_first, SpelledBy, Spells, characters}
-use Rattle.mm_xml.specs.Lexing.{◌>>=◌, Found, token_at}
-use Rattle.mm_xml.specs.Telling.{Sign, told}
-use Rattle.mm_xml.specs.Machine.{State, Before, Inside, After, with_child, place, place_all, finished, build, step, cleared, leaf_at, text_step, open_step, sign_step, Order, sign_may, sign_next, may, next, in_turn, accept, read_from, document, text, read_as, or_else, read_plain, read_behind, read_all}
-use Rattle.mm_xml.specs.Declaring.{after_declaration}
+use Rattle.mm_xml.specs.Inside.Lexing.{◌>>=◌, Found, token_at}
+use Rattle.mm_xml.specs.Inside.Telling.{Sign, told}
+use Rattle.mm_xml.specs.Inside.Machine.{State, Before, Inside, After, with_child, place, place_all, finished, build, step, cleared, leaf_at, text_step, open_step, sign_step, Order, sign_may, sign_next, may, next, in_turn, accept, read_from, document, text, read_as, or_else, read_plain, read_behind, read_all}
+use Rattle.mm_xml.specs.Inside.Declaring.{after_declaration}
 use Rattle.mm_xml.proofs.Spans.{taken, some, no, some_is, bind_some}
 use Rattle.mm_xml.proofs.Builds.{place_all_append, build_full, build_sound}
 use Rattle.mm_xml.proofs.Turns.{turns, text_turns, accept_is}

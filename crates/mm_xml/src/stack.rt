@@ -5,8 +5,8 @@ ghost use Rattle.mm_tree.specs.Characters.{is_space as space_is};
 ghost use Rattle.mm_tree.specs.Trees.{tree_of};
 ghost use Rattle.mm_xml.specs.Refusals.{most_levels};
 ghost use Rattle.mm_xml.specs.Grammar.{Begin, End, end_name};
-ghost use Rattle.mm_xml.specs.Machine.{place, leaf_at, text_step, open_step, start_step, end_step, finish_step, finished, frame_tree, closed, Before, depth_of};
-ghost use Rattle.mm_xml.specs.Builds.{state_of, frame_of, frames_of, Steps, MovesTo, Places, Ends, Finishes};
+ghost use Rattle.mm_xml.specs.Inside.Machine.{place, leaf_at, text_step, open_step, start_step, end_step, finish_step, finished, frame_tree, closed, Before, depth_of};
+ghost use Rattle.mm_xml.specs.Inside.Builds.{state_of, frame_of, frames_of, Steps, MovesTo, Places, Ends, Finishes};
 
 use crate::attribute::text_of;
 use crate::error::XmlError;

@@ -3,7 +3,7 @@ use denote.Text.{Utf8}
 use denote.Shadow.{shadow}
 use Rattle.std.specs.Str.{chars}
 use Rattle.mm_xml.specs.Letters.{digits_value}
-use Rattle.mm_xml.specs.Numbers.{capped}
+use Rattle.mm_xml.specs.Inside.Numbers.{capped}
 use Rattle.mm_xml.proofs.reference.number.Given as goal
 
 -- the number so far, with the digits that are left, gives the same number or one that is as much too large

@@ -4,9 +4,9 @@ use Rattle.std.specs.List.{list_all}
 use Rattle.std.specs.Str.{bytes_eq}
 use Rattle.mm_tree.specs.Characters.{is_space}
 use Rattle.mm_xml.specs.Grammar.{end_name}
-use Rattle.mm_xml.specs.Lexing.{◌>>=◌}
-use Rattle.mm_xml.specs.Telling.{Sign, Character, Named, Passage, Skipped, Opens, Closes, Doctyped, sign_at}
-use Rattle.mm_xml.specs.Machine.{Order, sign_may, sign_next}
+use Rattle.mm_xml.specs.Inside.Lexing.{◌>>=◌}
+use Rattle.mm_xml.specs.Inside.Telling.{Sign, Character, Named, Passage, Skipped, Opens, Closes, Doctyped, sign_at}
+use Rattle.mm_xml.specs.Inside.Machine.{Order, sign_may, sign_next}
 
 -- the names of the open elements, the innermost first, and whether a node was met
 pub record Outlined : Type 0 where

@@ -7,7 +7,7 @@ use Rattle.mm_tree.specs.declared.Attribute.{Attribute}
 use Rattle.mm_xml.specs.Letters.{referred}
 use Rattle.mm_xml.specs.Syntax.{Part, Literal, Reference, if_named, meant_in_value, Written, attribute_of, is_public, Token, Data, Section, Comment, Instruction, Start, Close, Doctype}
 use Rattle.mm_xml.specs.Grammar.{Bracket, Begin, End, end_name}
-use Rattle.mm_xml.specs.Lexing.{◌>>=◌, Found, span, equals_at, value_at, spaced_quoted_at, token_at}
+use Rattle.mm_xml.specs.Inside.Lexing.{◌>>=◌, Found, span, equals_at, value_at, spaced_quoted_at, token_at}
 use Rattle.mm_tree.specs.Characters.{is_char, is_name_char, is_short_name}
 use Rattle.std.specs.List.{flat_map}
 

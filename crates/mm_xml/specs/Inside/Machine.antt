@@ -8,9 +8,9 @@ use Rattle.mm_tree.specs.Trees.{none, Tree, siblings, one, levels}
 use Rattle.mm_tree.specs.Characters.{is_space}
 use Rattle.mm_xml.specs.Syntax.{meant, Token, Data, Section, Comment, Instruction, Start, Close, Doctype}
 use Rattle.mm_xml.specs.Grammar.{Bracket, Begin, End, end_name, text_brackets, start_brackets, is_inside}
-use Rattle.mm_xml.specs.Lexing.{◌>>=◌}
-use Rattle.mm_xml.specs.Declaring.{after_declaration}
-use Rattle.mm_xml.specs.Telling.{Sign, Character, Named, Passage, Skipped, Opens, Closes, Doctyped, told, sign_at}
+use Rattle.mm_xml.specs.Inside.Lexing.{◌>>=◌}
+use Rattle.mm_xml.specs.Inside.Declaring.{after_declaration}
+use Rattle.mm_xml.specs.Inside.Telling.{Sign, Character, Named, Passage, Skipped, Opens, Closes, Doctyped, told, sign_at}
 
 -- an element that is open: its kind, and its children so far
 pub record Frame : Type 0 where
