@@ -1,3 +1,5 @@
+//! Builds the tree from the lexemes of a text.
+
 ghost use Rattle.std.specs.Prelude.{◌≡◌, ◌≤◌, []};
 ghost use Rattle.std.specs.Str.{chars};
 ghost use Rattle.mm_xml.specs.Inside.Lexemes.{sign_of, chars_of};

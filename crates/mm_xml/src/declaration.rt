@@ -1,3 +1,5 @@
+//! The XML declaration: what stands behind one that is well formed.
+
 ghost use Rattle.std.specs.Prelude.{◌≡◌, IsTrue};
 ghost use Rattle.std.specs.List.{list_all};
 ghost use Rattle.std.specs.Str.{chars};

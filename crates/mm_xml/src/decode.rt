@@ -1,3 +1,5 @@
+//! From bytes to characters: UTF-8, the byte order mark and line ends.
+
 ghost use Rattle.std.specs.Prelude.{◌≡◌, IfOk, IsTrue, false, true};
 ghost use Rattle.std.specs.Str.{chars};
 ghost use Rattle.mm_xml.specs.Grammar.{normal, without_mark as mark_dropped};

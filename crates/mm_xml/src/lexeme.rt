@@ -1,3 +1,5 @@
+//! Lexemes: tags, character data, references and other markup, each as the reader needs it.
+
 ghost use Rattle.std.specs.Prelude.{◌≡◌, [], ◌∷◌, length, map, IfOk};
 ghost use Rattle.std.specs.Str.{chars};
 ghost use Rattle.mm_xml.specs.Letters.{lower as lower_is};

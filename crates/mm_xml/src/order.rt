@@ -1,3 +1,5 @@
+//! Which lexeme may stand where.
+
 ghost use Rattle.std.specs.Prelude.{◌≡◌, ◌+◌, ◌<◌, ◌≤◌, ◌^◌, false, true, IsTrue};
 ghost use Rattle.mm_xml.specs.Inside.Machine.{document as document_order, text as text_order, sign_may, sign_next};
 ghost use Rattle.mm_xml.specs.Inside.Builds.{order_of};

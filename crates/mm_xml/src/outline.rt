@@ -1,3 +1,5 @@
+//! Whether a text spells a tree, told from the names of the open elements alone.
+
 ghost use Rattle.std.specs.Prelude.{◌≡◌, ◌≤◌, [], false};
 ghost use Rattle.std.specs.Str.{chars};
 ghost use Rattle.mm_xml.specs.Inside.Outlines.{outlined, is_over, outline_begin, outline_end, outline_leaf, outline_text, outline_open, outline_start, outline_finish, outline_step, outline_as};

@@ -1,3 +1,5 @@
+//! From bytes to a tree: both forms, with and without a declaration.
+
 ghost use Rattle.std.specs.Prelude.{◌≡◌, ◌<◌, ◌≤◌, ◌^◌, length, false, IfOk, IsErrOf, IsTrue};
 ghost use Rattle.std.specs.Str.{chars};
 ghost use Rattle.mm_tree.specs.declared.Kind.{Kind};
