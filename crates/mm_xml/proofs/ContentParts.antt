@@ -1,5 +1,5 @@
 -- What stands in an element and in content.
-use Rattle.std.proofs.Common.{◌≡◌, ◌≢◌, ℕ, zero, suc, Bool, true, false, cond, ◌&&◌, not, List, [], ◌∷◌, ◌++◌, map, eqb, refl, sym, ap, subst, ◌∙◌, append_assoc, arith, inl, inr}
+use Rattle.std.proofs.Common.{◌≡◌, ◌≢◌, ℕ, Bool, true, false, cond, not, List, [], ◌∷◌, ◌++◌, map, eqb, refl, sym, ap, subst, ◌∙◌, append_assoc, arith, inl, inr}
 use Rattle.std.specs.List.{flat_map, list_all}
 use Rattle.std.specs.Str.{chars, encode_utf8_all}
 use Rattle.std.proofs.lemmas.Bool.{eqb-true, and_parts, and_from}
@@ -12,7 +12,7 @@ use Rattle.mm_tree.specs.Trees.{Trees, none, node, Tree, one}
 use Rattle.mm_xml.specs.Syntax.{Written, attribute_of, Token, Data, Section, Comment, Instruction, Start, Close, Doctype, is_token, spelled}
 use Rattle.mm_xml.specs.Grammar.{Bracket, Begin, End, text_brackets, brackets, bracketing, is_textual, normal}
 use Rattle.mm_xml.specs.Productions.{with_line_feeds, PartBy, characters_of, is_content, is_end, closes, ends_text, SpellsContent, behind_text, SpellsElement}
-use Rattle.mm_xml.specs.Parts.{SpellsToken, ElementParts, EmptyParts, TagParts, ContentParts, ElementFirst, TextFirst}
+use Rattle.mm_xml.specs.Parts.{SpellsToken, ElementParts, TagParts, ContentParts, ElementFirst, TextFirst}
 use Rattle.mm_xml.proofs.Whole.{first}
 use Rattle.mm_xml.proofs.Elements.{Cuts, brackets_append, closes_content, inside_closes, run_brackets}
 use Rattle.mm_xml.proofs.Splits.{part_apart, one_token, no_bytes}

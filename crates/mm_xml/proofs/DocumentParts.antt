@@ -1,26 +1,26 @@
 -- What stands in a document, and what stands round its element.
-use Rattle.std.proofs.Common.{◌≡◌, ℕ, zero, suc, ◌+◌, ◌-◌, Bool, true, false, cond, ◌&&◌, ◌||◌, not, List, [], ◌∷◌, ◌++◌, map, Option, Some, None, eqb, refl, sym, ap, subst, ◌∙◌, append_assoc, arith, ◌⊎◌, inl, inr}
+use Rattle.std.proofs.Common.{◌≡◌, ℕ, zero, suc, ◌+◌, ◌-◌, Bool, true, false, cond, List, [], ◌∷◌, ◌++◌, map, Option, Some, None, eqb, refl, sym, ap, subst, ◌∙◌, append_assoc, arith, ◌⊎◌, inl, inr}
 use Rattle.std.specs.List.{flat_map, list_all}
 use Rattle.std.specs.Str.{is_utf8, chars, encode_utf8_all}
 use Rattle.std.proofs.lemmas.Bool.{eqb-true, and_parts, and_from}
 use Rattle.std.proofs.lemmas.List.{append-nil}
 use Rattle.std.proofs.lemmas.Str.{IsUtf8-from_is_utf8, encodes-chars}
 use Rattle.mm_tree.specs.declared.Kind.{Kind}
-use Rattle.mm_tree.specs.declared.Kind.TheVariants.{Element, Words}
+use Rattle.mm_tree.specs.declared.Kind.TheVariants.{Element}
 use Rattle.mm_tree.specs.Characters.{is_char, is_space}
 use Rattle.mm_tree.specs.Trees.{none, node, Tree, one}
 use Rattle.mm_tree.specs.Validity.{are_chars}
-use Rattle.mm_xml.specs.Syntax.{Literal, Reference, meant, Written, attribute_of, External, Token, Data, Section, Comment, Instruction, Start, Close, Doctype, is_token, spelled, Declaration, is_declaration}
+use Rattle.mm_xml.specs.Syntax.{Literal, Reference, meant, Written, attribute_of, External, Token, Data, Section, Comment, Instruction, Start, Close, Doctype, spelled, Declaration, is_declaration}
 use Rattle.mm_xml.specs.Grammar.{Bracket, Begin, End, text_brackets, start_brackets, brackets, bracketing, outside, is_inside, is_document, spelled_first, normal, without_mark, characters}
-use Rattle.mm_xml.specs.Productions.{with_line_feeds, PartBy, is_content, closes, SpellsElement, is_misc, SpellsMisc, is_prolog, SpellsProlog, is_first, is_marked, SpellsDocument}
-use Rattle.mm_xml.specs.Parts.{SpellsCharacters, SpellsToken, IsMark, DocumentParts, DoctypeParts, PrologParts, MoreMisc, MiscParts}
+use Rattle.mm_xml.specs.Productions.{with_line_feeds, PartBy, is_content, closes, is_misc, SpellsMisc, is_prolog, SpellsProlog, is_first, is_marked, SpellsDocument}
+use Rattle.mm_xml.specs.Parts.{IsMark, DocumentParts, PrologParts, MiscParts}
 use Rattle.mm_xml.proofs.EncodingFacts.{encoded_append}
 use Rattle.mm_xml.proofs.Elements.{down, down_text, brackets_append, inside_closes}
 use Rattle.mm_xml.proofs.Forms.{blank_more, blank_text, nothing_there, document_outside}
 use Rattle.mm_xml.proofs.Joins.{plain_same}
 use Rattle.mm_xml.proofs.Splits.{apart, part_apart, one_token, no_bytes}
 use Rattle.mm_xml.proofs.Valid.{same_chars, encoded_chars}
-use Rattle.mm_xml.proofs.ContentParts.{root, no_others, all_before}
+use Rattle.mm_xml.proofs.ContentParts.{no_others, all_before}
 use Rattle.mm_xml.proofs.Ends.{leaf_first, tag_first}
 
 -- ---- Misc

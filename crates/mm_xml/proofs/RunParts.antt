@@ -1,18 +1,17 @@
 -- What a text is made of, and what stands in the text form.
-use Rattle.std.proofs.Common.{◌≡◌, ◌≢◌, ℕ, zero, suc, ◌+◌, Bool, true, false, cond, ◌&&◌, ◌||◌, not, List, [], ◌∷◌, ◌++◌, Option, Some, None, eqb, leb, refl, sym, ap, subst, ◌∙◌, append_assoc, arith, ◌⊎◌, inl, inr}
+use Rattle.std.proofs.Common.{◌≡◌, ℕ, ◌+◌, Bool, true, false, cond, ◌&&◌, not, List, [], ◌∷◌, ◌++◌, Option, Some, None, eqb, leb, refl, sym, ap, subst, ◌∙◌, arith, ◌⊎◌, inl, inr}
 use Rattle.std.specs.List.{flat_map, list_all}
 use Rattle.std.specs.Str.{chars, encode_utf8_all}
 use Rattle.std.proofs.lemmas.Bool.{eqb-true, and_parts, and_from, or_left, or_right}
-use Rattle.std.proofs.lemmas.List.{append-nil}
 use Rattle.mm_tree.specs.declared.Kind.{Kind}
 use Rattle.mm_tree.specs.declared.Kind.TheVariants.{Words}
 use Rattle.mm_tree.specs.Characters.{is_space}
-use Rattle.mm_tree.specs.Trees.{none, node, Tree, one}
+use Rattle.mm_tree.specs.Trees.{none, Tree, one}
 use Rattle.mm_xml.specs.Letters.{starts, is_free}
 use Rattle.mm_xml.specs.Syntax.{Literal, Reference, is_literal, Token, Data, Section, Comment, Instruction, Start, Close, Doctype, is_token, spelled, Declaration}
-use Rattle.mm_xml.specs.Grammar.{Bracket, Begin, End, text_brackets, brackets, bracketing, unbroken, is_textual, is_text, spelled_first, SpellsBy, normal}
+use Rattle.mm_xml.specs.Grammar.{Bracket, Begin, End, text_brackets, brackets, bracketing, unbroken, is_textual, is_text, SpellsBy, normal}
 use Rattle.mm_xml.specs.Productions.{with_line_feeds, PartBy, characters_of, SpellsRun, ends_run, ends_markup, SpellsText}
-use Rattle.mm_xml.specs.Parts.{SpellsCharacters, SpellsToken, SpellsCharData, is_markup, MoreText, RunParts, TextParts}
+use Rattle.mm_xml.specs.Parts.{is_markup, MoreText, RunParts, TextParts}
 use Rattle.mm_xml.proofs.Elements.{run_brackets}
 use Rattle.mm_xml.proofs.Forms.{nothing_there}
 use Rattle.mm_xml.proofs.Runs.{literals, literals_spelled, literals_text, close_mark, text_append}

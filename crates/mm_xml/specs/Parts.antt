@@ -6,9 +6,9 @@ use Rattle.mm_tree.specs.declared.Kind.{Kind}
 use Rattle.mm_tree.specs.declared.Kind.TheVariants.{Element, Words}
 use Rattle.mm_tree.specs.Trees.{Trees, none, node, Tree}
 use Rattle.mm_tree.specs.Validity.{are_chars}
-use Rattle.mm_tree.specs.Characters.{is_char, is_space, is_name, is_short_name}
+use Rattle.mm_tree.specs.Characters.{is_space, is_name, is_short_name}
 use Rattle.mm_xml.specs.Letters.{is_free, is_gap, referred}
-use Rattle.mm_xml.specs.Syntax.{Literal, Reference, is_literal, is_some, not_semicolon, is_rest, is_reserved, is_quote, is_within, spelled_part, Written, is_written, spelled_written, attribute_of, differ, External, is_external, spelled_external, ending, Token, Data, Section, Comment, Instruction, Start, Close, Doctype, is_token, spelled, Declaration}
+use Rattle.mm_xml.specs.Syntax.{Reference, is_literal, is_some, not_semicolon, is_rest, is_reserved, is_quote, is_within, spelled_part, Written, is_written, spelled_written, attribute_of, differ, External, is_external, spelled_external, ending, Token, Data, Section, Comment, Instruction, Start, Close, Doctype, is_token, spelled, Declaration}
 use Rattle.mm_xml.specs.Grammar.{spelled_first}
 use Rattle.mm_xml.specs.Productions.{with_line_feeds, characters_of, SpellsRun, ends_run, ends_markup, ends_text, SpellsContent, behind_text, SpellsElement, is_misc, SpellsMisc, SpellsProlog, is_first, is_marked}
 
