@@ -10,10 +10,10 @@ use Rattle.mm_tree.specs.declared.Attribute.{Attribute}
 use Rattle.mm_tree.specs.Characters.{is_space, is_name_char, is_short_name}
 use Rattle.mm_xml.specs.Letters.{is_gap}
 use Rattle.mm_xml.specs.Syntax.{Part, Written, meant_in_value, attribute_of}
-use Rattle.mm_xml.specs.Lexing.{◌>>=◌, Found, span, after, part_at, parts_at, value_at, written_at, attributes_at, starts_name}
-use Rattle.mm_xml.specs.Telling.{tell_parts, tell_character, tell_value, tell_attributes, attribute_at}
+use Rattle.mm_xml.specs.Inside.Lexing.{◌>>=◌, Found, span, after, part_at, parts_at, value_at, written_at, attributes_at, starts_name}
+use Rattle.mm_xml.specs.Inside.Telling.{tell_parts, tell_character, tell_value, tell_attributes, attribute_at}
 use Rattle.std.specs.Borrow.{Bor}
-use Rattle.mm_xml.specs.Lexemes.{Gets}
+use Rattle.mm_xml.specs.Inside.Lexemes.{Gets}
 use Rattle.mm_xml.proofs.Enough.{parts_enough, attributes_enough}
 use Rattle.mm_xml.proofs.Spans.{some, no, some_is, span_all}
 

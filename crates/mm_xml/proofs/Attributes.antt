@@ -6,7 +6,7 @@ use Rattle.std.proofs.lemmas.List.{length-append}
 use Rattle.mm_tree.specs.Characters.{is_space, is_name_start, is_name_char, is_name, is_short_name}
 use Rattle.mm_xml.specs.Letters.{is_gap}
 use Rattle.mm_xml.specs.Syntax.{Part, is_quote, spelled_part, is_within, Written, is_written, spelled_written}
-use Rattle.mm_xml.specs.Lexing.{◌>>=◌, Found, span, after, parts_at, value_at, written_at, starts_name, attributes_at}
+use Rattle.mm_xml.specs.Inside.Lexing.{◌>>=◌, Found, span, after, parts_at, value_at, written_at, starts_name, attributes_at}
 use Rattle.mm_xml.proofs.Spans.{taken, chosen, some, no, some_is, bind_some, span_whole, span_all, span_again, after_takes, Stops}
 use Rattle.mm_xml.proofs.Parts.{parts_take, parts_again, parts_len}
 

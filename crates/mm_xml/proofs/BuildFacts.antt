@@ -7,12 +7,12 @@ use Rattle.mm_tree.specs.Trees.{Tree}
 use Rattle.mm_xml.specs.declared.error.XmlError.{XmlError}
 use Rattle.mm_xml.specs.declared.error.XmlError.TheVariants as error
 use Rattle.mm_xml.specs.Grammar.{is_inside}
-use Rattle.mm_xml.specs.Lexing.{◌>>=◌, Found}
-use Rattle.mm_xml.specs.Telling.{Sign}
-use Rattle.mm_xml.specs.Passages.{passage_at}
-use Rattle.mm_xml.specs.Machine.{State, Before, finish_step, sign_step, deepest_of, Order, sign_may, sign_next, read_from, read_as}
-use Rattle.mm_xml.specs.Answers.{most_levels}
-use Rattle.mm_xml.specs.Builds.{AdvanceFails, FinishFails, Finishes, Gives}
+use Rattle.mm_xml.specs.Inside.Lexing.{◌>>=◌, Found}
+use Rattle.mm_xml.specs.Inside.Telling.{Sign}
+use Rattle.mm_xml.specs.Inside.Passages.{passage_at}
+use Rattle.mm_xml.specs.Inside.Machine.{State, Before, finish_step, sign_step, deepest_of, Order, sign_may, sign_next, read_from, read_as}
+use Rattle.mm_xml.specs.Refusals.{most_levels}
+use Rattle.mm_xml.specs.Inside.Builds.{AdvanceFails, FinishFails, Finishes, Gives}
 use Rattle.mm_xml.proofs.Spans.{some, no, bind_some}
 use Rattle.mm_xml.proofs.Enough.{read_enough}
 use Rattle.mm_xml.proofs.Levels.{read_deep}

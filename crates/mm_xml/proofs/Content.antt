@@ -5,7 +5,7 @@ use Rattle.std.proofs.lemmas.Bool.{eqb-true, and_parts, and_from}
 use Rattle.mm_tree.specs.Characters.{is_space, is_name_start, is_name_char, is_name, is_short_name}
 use Rattle.mm_xml.specs.Letters.{starts}
 use Rattle.mm_xml.specs.Syntax.{Part, Literal, Reference, is_literal, spelled_written, Token, Data, Section, Comment, Instruction, Start, Close, Doctype, ending, is_token, spelled}
-use Rattle.mm_xml.specs.Lexing.{◌>>=◌, Found, span, after, part_at, start_at, close_at, comment_at, section_at, instruction_at, two_dashes, section_start, doctype_start, doctype_at, marked_at, markup_at, token_at}
+use Rattle.mm_xml.specs.Inside.Lexing.{◌>>=◌, Found, span, after, part_at, start_at, close_at, comment_at, section_at, instruction_at, two_dashes, section_start, doctype_start, doctype_at, marked_at, markup_at, token_at}
 use Rattle.mm_xml.proofs.Spans.{taken, chosen, some, no, some_is, bind_some, span_whole, span_all, span_again, after_takes, starts_takes}
 use Rattle.mm_xml.proofs.Parts.{part_takes, part_again}
 use Rattle.mm_xml.proofs.Attributes.{short_chars, not_space_stops, space_no_name}

@@ -5,9 +5,9 @@ use Rattle.std.proofs.lemmas.Bool.{eqb-true, and_parts, and_from}
 use Rattle.mm_tree.specs.Characters.{is_char, is_space, is_name_char}
 use Rattle.mm_xml.specs.Letters.{is_gap, starts}
 use Rattle.mm_xml.specs.Syntax.{Quoted, is_quote, is_quoted, spelled_quoted, Setting, spelled_setting, is_setting, is_version, is_encoding, is_standalone, declaration_start, version_word, encoding_word, standalone_word, declaration_end, Declaration, spelled_if, is_setting_if, spelled_declaration, is_declaration, Token, is_token, spelled}
-use Rattle.mm_xml.specs.Lexing.{◌>>=◌, Found, span, after, quoted_at, equals_at, instruction_at, markup_at, token_at}
-use Rattle.mm_xml.specs.Prefix.{stripped}
-use Rattle.mm_xml.specs.Declaring.{quoted_text_at, setting_at, passed, after_version, after_if, after_encoding, after_standalone, after_declaration}
+use Rattle.mm_xml.specs.Inside.Lexing.{◌>>=◌, Found, span, after, quoted_at, equals_at, instruction_at, markup_at, token_at}
+use Rattle.mm_xml.specs.Inside.Prefix.{stripped}
+use Rattle.mm_xml.specs.Inside.Declaring.{quoted_text_at, setting_at, passed, after_version, after_if, after_encoding, after_standalone, after_declaration}
 use Rattle.mm_xml.proofs.Spans.{taken, chosen, some, no, some_is, bind_some, Stops, span_whole, span_all, span_again, after_takes, starts_itself}
 use Rattle.mm_xml.proofs.Attributes.{quote_no_space, space_no_name, gap_spaces}
 use Rattle.mm_xml.proofs.Tags.{instruction_rest}

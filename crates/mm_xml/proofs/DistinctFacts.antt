@@ -8,7 +8,7 @@ use Rattle.std.specs.Cmp.Lexicographic.{slice_cmp}
 use Rattle.std.specs.BTreeMap.{get_by, UpdatesBy}
 use Rattle.std.proofs.lemmas.Map.Text.{btree_map_updates_str}
 use Rattle.mm_tree.specs.declared.Attribute.{Attribute}
-use Rattle.mm_xml.specs.Distinct.{differ_from}
+use Rattle.mm_xml.specs.Inside.Distinct.{differ_from}
 use Rattle.mm_xml.specs.Syntax.{differ}
 use Rattle.mm_xml.proofs.Seens.{flip, differ_is}
 

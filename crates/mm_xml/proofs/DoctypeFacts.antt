@@ -4,12 +4,12 @@ use Rattle.std.specs.List.{list_all}
 use Rattle.mm_tree.specs.Characters.{is_char, is_space, is_name_char, is_name_start, is_name}
 use Rattle.mm_xml.specs.Letters.{starts, is_gap}
 use Rattle.mm_xml.specs.Syntax.{Token, Doctype, Quoted, is_quote, is_quoted, spelled_quoted, is_public, External, Nowhere, System, Public, is_external, spelled_external, is_token}
-use Rattle.mm_xml.specs.Lexing.{◌>>=◌, Found, span, after, quoted_char, quoted_at, spaced_quoted_at, system_word, public_word, system_at, public_at, external_at, doctype_end_at, doctype_at, two_dashes, section_start, doctype_start, comment_at, section_at, marked_at}
+use Rattle.mm_xml.specs.Inside.Lexing.{◌>>=◌, Found, span, after, quoted_char, quoted_at, spaced_quoted_at, system_word, public_word, system_at, public_at, external_at, doctype_end_at, doctype_at, two_dashes, section_start, doctype_start, comment_at, section_at, marked_at}
 use Rattle.std.specs.Borrow.{Bor}
 use Rattle.std.proofs.lemmas.Bool.{and_parts, and_from}
-use Rattle.mm_xml.specs.Prefix.{stripped}
-use Rattle.mm_xml.specs.Telling.{Sign, Doctyped, tell, rest_of, both_rest}
-use Rattle.mm_xml.specs.Lexemes.{Rests}
+use Rattle.mm_xml.specs.Inside.Prefix.{stripped}
+use Rattle.mm_xml.specs.Inside.Telling.{Sign, Doctyped, tell, rest_of, both_rest}
+use Rattle.mm_xml.specs.Inside.Lexemes.{Rests}
 use Rattle.mm_xml.proofs.Spans.{taken, chosen, some, no, some_is, bind_some, Stops, span_whole, span_all, span_again, after_takes, starts_takes}
 use Rattle.mm_xml.proofs.Attributes.{quote_no_space, space_no_name, not_space_stops, name_chars, name_char_no_space, start_is, gap_spaces}
 use Rattle.mm_xml.proofs.Tags.{Takes}

@@ -10,8 +10,8 @@ use Rattle.mm_tree.specs.declared.Kind.TheVariants.{Element, Words}
 use Rattle.mm_tree.specs.Characters.{is_space, is_short_name}
 use Rattle.mm_tree.specs.Trees.{Trees, none, node, Tree}
 use Rattle.mm_xml.specs.Syntax.{Literal, Reference, is_literal, meant, Written, spelled_written, attribute_of, Token, Data, Section, Comment, Instruction, Start, Close, Doctype, is_token, spelled}
-use Rattle.mm_xml.specs.Grammar.{Bracket, Begin, End, name_of, text_brackets, start_brackets, brackets, bracketing, is_inside, is_textual, normal}
-use Rattle.mm_xml.specs.Productions.{is_plain, PartBy, text_of, SpellsRun, ends_text, is_content, SpellsContent, behind_text, is_end, fewer, closes, SpellsElement}
+use Rattle.mm_xml.specs.Grammar.{Bracket, Begin, End, end_name, text_brackets, start_brackets, brackets, bracketing, is_inside, is_textual, normal}
+use Rattle.mm_xml.specs.Productions.{is_plain, PartBy, characters_of, SpellsRun, ends_text, is_content, SpellsContent, behind_text, is_end, fewer, closes, SpellsElement}
 use Rattle.mm_xml.proofs.Whole.{first}
 use Rattle.mm_xml.proofs.Joins.{plain_same, no_part, all_append, join_behind, join_markup, join_nothing, BeginsMarkup, part_of_one, start_plain, close_plain, start_ends, closed}
 
@@ -24,7 +24,7 @@ Cuts ys = (run : List ℕ) → brackets run ys ≡ text_brackets run ++ brackets
 regroup : (a b p q : List Bracket) → a ++ (b ++ (p ++ q)) ≡ (a ++ (b ++ p)) ++ q
 regroup a b p q = sym (simp append_assoc)
 
-brackets_append : (xs : List Token) (run : List ℕ) (ys : List Token) → Cuts ys → brackets run (xs ++ ys) ≡ brackets run xs ++ brackets [] ys
+pub brackets_append : (xs : List Token) (run : List ℕ) (ys : List Token) → Cuts ys → brackets run (xs ++ ys) ≡ brackets run xs ++ brackets [] ys
 brackets_append [] run ys cut = cut run
 brackets_append (Data p ∷ xs) run ys cut = brackets_append xs (run ++ meant p) ys cut
 brackets_append (Section cs ∷ xs) run ys cut = brackets_append xs (run ++ cs) ys cut
@@ -68,7 +68,7 @@ closes_append (Close name gap ∷ xs) depth run ys h =
 closes_append (Doctype gap name ext after ∷ xs) depth run ys h = absurd cc
 
 -- no document type stands in an element
-closes_content : (xs : List Token) (depth : ℕ) → closes depth xs ≡ true → list_all is_content xs ≡ true
+pub closes_content : (xs : List Token) (depth : ℕ) → closes depth xs ≡ true → list_all is_content xs ≡ true
 closes_content [] depth h = refl
 closes_content (Data p ∷ xs) depth h = closes_content xs depth (and_parts (is_inside depth) _ h).1
 closes_content (Section cs ∷ xs) depth h = closes_content xs depth (and_parts (is_inside depth) _ h).1
@@ -81,22 +81,22 @@ closes_content (Doctype gap name ext after ∷ xs) depth h = absurd cc
 -- ---- the content of an element never leaves it
 
 -- the brackets end so many nodes that are open, and all that they begin
-abbrev down : ℕ → List Bracket → Bool
+abbrev pub down : ℕ → List Bracket → Bool
 down n [] = not (is_inside n)
 down n (Begin kind ∷ ps) = down (suc n) ps
 down n (End name ∷ ps) = is_inside n && down (fewer n) ps
 
-down_trees : (ts : Trees Kind) (n : ℕ) (ps : List Bracket) → down n (bracketing ts ++ ps) ≡ down n ps
+pub down_trees : (ts : Trees Kind) (n : ℕ) (ps : List Bracket) → down n (bracketing ts ++ ps) ≡ down n ps
 down_trees none n ps = refl
 down_trees (node kind inner rest) n ps =
-    ap (λ (qs : List Bracket). down (suc n) qs) (append_assoc (bracketing inner) (End (name_of kind) ∷ bracketing rest) ps)
-    ∙ down_trees inner (suc n) (End (name_of kind) ∷ (bracketing rest ++ ps))
+    ap (λ (qs : List Bracket). down (suc n) qs) (append_assoc (bracketing inner) (End (end_name kind) ∷ bracketing rest) ps)
+    ∙ down_trees inner (suc n) (End (end_name kind) ∷ (bracketing rest ++ ps))
     ∙ down_trees rest n ps
 
-down_text : (run : List ℕ) (n : ℕ) (ps : List Bracket) → down n (text_brackets run ++ ps) ≡ down n ps
+pub down_text : (run : List ℕ) (n : ℕ) (ps : List Bracket) → down n (text_brackets run ++ ps) ≡ down n ps
 down_text run n ps = elim (list_all is_space run) as (λ b. down n ((cond b [] (Begin (Words (encode_utf8_all run)) ∷ End [] ∷ [])) ++ ps) ≡ down n ps) [ true ↦ refl | false ↦ refl ]
 
-inside_closes : (ys : List Token) (run name gap : List ℕ) (n : ℕ) → list_all is_content ys ≡ true → down n (brackets run ys) ≡ true → closes (suc n) (ys ++ Close name gap ∷ []) ≡ true
+pub inside_closes : (ys : List Token) (run name gap : List ℕ) (n : ℕ) → list_all is_content ys ≡ true → down n (brackets run ys) ≡ true → closes (suc n) (ys ++ Close name gap ∷ []) ≡ true
 inside_closes [] run name gap n c h = last n (sym (down_text run n []) ∙ ap (λ (qs : List Bracket). down n qs) (append-nil (text_brackets run)) ∙ h)
   where
     last : (n : ℕ) → down n [] ≡ true → closes (suc n) (Close name gap ∷ []) ≡ true
@@ -179,17 +179,17 @@ tag_first (Doctype gap name ext after ∷ ys) d r each a b e = absurd (second d 
 -- ---- text
 
 -- tokens of a text join the characters before them
-pub run_brackets : (xs : List Token) (run : List ℕ) (ys : List Token) → list_all is_textual xs ≡ true → brackets run (xs ++ ys) ≡ brackets (run ++ flat_map text_of xs) ys
+pub run_brackets : (xs : List Token) (run : List ℕ) (ys : List Token) → list_all is_textual xs ≡ true → brackets run (xs ++ ys) ≡ brackets (run ++ flat_map characters_of xs) ys
 run_brackets [] run ys h = ap (λ (r : List ℕ). brackets r ys) (sym (append-nil run))
-run_brackets (Data p ∷ xs) run ys h = run_brackets xs (run ++ meant p) ys h ∙ ap (λ (r : List ℕ). brackets r ys) (append_assoc run (meant p) (flat_map text_of xs))
-run_brackets (Section cs ∷ xs) run ys h = run_brackets xs (run ++ cs) ys h ∙ ap (λ (r : List ℕ). brackets r ys) (append_assoc run cs (flat_map text_of xs))
+run_brackets (Data p ∷ xs) run ys h = run_brackets xs (run ++ meant p) ys h ∙ ap (λ (r : List ℕ). brackets r ys) (append_assoc run (meant p) (flat_map characters_of xs))
+run_brackets (Section cs ∷ xs) run ys h = run_brackets xs (run ++ cs) ys h ∙ ap (λ (r : List ℕ). brackets r ys) (append_assoc run cs (flat_map characters_of xs))
 run_brackets (Comment cs ∷ xs) run ys h = run_brackets xs run ys h
 run_brackets (Instruction name cs ∷ xs) run ys h = run_brackets xs run ys h
 run_brackets (Start empty name ws gap ∷ xs) run ys h = absurd cc
 run_brackets (Close name gap ∷ xs) run ys h = absurd cc
 run_brackets (Doctype gap name ext after ∷ xs) run ys h = absurd cc
 
-textual_content : (xs : List Token) → list_all is_textual xs ≡ true → list_all is_content xs ≡ true
+pub textual_content : (xs : List Token) → list_all is_textual xs ≡ true → list_all is_content xs ≡ true
 textual_content [] h = refl
 textual_content (Data p ∷ xs) h = textual_content xs h
 textual_content (Section cs ∷ xs) h = textual_content xs h
@@ -199,7 +199,7 @@ textual_content (Start empty name ws gap ∷ xs) h = absurd cc
 textual_content (Close name gap ∷ xs) h = absurd cc
 textual_content (Doctype gap name ext after ∷ xs) h = absurd cc
 
-behind_is : (text : List ℕ) (children : Trees Kind) → text_brackets text ++ bracketing children ≡ bracketing (behind_text text children)
+pub behind_is : (text : List ℕ) (children : Trees Kind) → text_brackets text ++ bracketing children ≡ bracketing (behind_text text children)
 behind_is text children = elim (list_all is_space text) as (λ b. (cond b [] (Begin (Words (encode_utf8_all text)) ∷ End [] ∷ [])) ++ bracketing children ≡ bracketing (cond b children (node (Words (encode_utf8_all text)) none children))) [ true ↦ refl | false ↦ refl ]
 
 -- what stands behind a text: nothing, or a tag
@@ -253,5 +253,5 @@ element_in_content bytes content t children s c =
       s.0 ++ c.0,
       join_behind bytes content s.0 c.0 s.1 c.1 k.last k.no_square,
       all_append is_content s.0 c.0 (closes_content s.0 0 s.2) c.2,
-      closes_append s.0 0 [] c.0 s.2 ∙ (λ i. s.3 i ++ c.3 i) ∙ append_assoc (Begin t.0 ∷ bracketing t.1) (End (name_of t.0) ∷ []) (bracketing children),
+      closes_append s.0 0 [] c.0 s.2 ∙ (λ i. s.3 i ++ c.3 i) ∙ append_assoc (Begin t.0 ∷ bracketing t.1) (End (end_name t.0) ∷ []) (bracketing children),
     )

@@ -6,9 +6,9 @@ use Rattle.mm_tree.specs.Trees.{Tree}
 use Rattle.mm_tree.specs.Characters.{is_space}
 use Rattle.mm_xml.specs.Letters.{is_gap}
 use Rattle.mm_xml.specs.Syntax.{Part, Literal, Reference, spelled_part, Written, spelled_written, Token, Data, Section, Comment, Instruction, Start, Close, Doctype, spelled}
-use Rattle.mm_xml.specs.Lexing.{◌>>=◌, Found, span, part_at, parts_at, written_at, attributes_at, starts_name, token_at}
-use Rattle.mm_xml.specs.Telling.{Sign, told, tell}
-use Rattle.mm_xml.specs.Machine.{State, Order, sign_may, sign_next, sign_step, finish_step, read_from}
+use Rattle.mm_xml.specs.Inside.Lexing.{◌>>=◌, Found, span, part_at, parts_at, written_at, attributes_at, starts_name, token_at}
+use Rattle.mm_xml.specs.Inside.Telling.{Sign, told, tell}
+use Rattle.mm_xml.specs.Inside.Machine.{State, Order, sign_may, sign_next, sign_step, finish_step, read_from}
 use Rattle.mm_xml.proofs.Spans.{some, span_whole}
 use Rattle.mm_xml.proofs.Parts.{part_takes}
 use Rattle.mm_xml.proofs.Attributes.{written_takes}

@@ -8,12 +8,12 @@ use Rattle.mm_xml.specs.declared.error.XmlError.TheVariants as error
 use Rattle.std.specs.Prelude.{Err}
 use Rattle.std.proofs.lemmas.Bool.{and_parts}
 use Rattle.mm_xml.specs.Grammar.{is_inside}
-use Rattle.mm_xml.specs.Lexing.{Found, span}
-use Rattle.mm_xml.specs.Telling.{Sign, Character, Passage, sign_at}
-use Rattle.mm_xml.specs.Passages.{is_ordinary, passage_at}
-use Rattle.mm_xml.specs.Machine.{Order, cut, sign_may, sign_next}
-use Rattle.mm_xml.specs.Outlines.{Outlined, outline_step, outline_ends, outline_text, holds, outline_from}
-use Rattle.mm_xml.specs.Builds.{Blanks, Outlines}
+use Rattle.mm_xml.specs.Inside.Lexing.{Found, span}
+use Rattle.mm_xml.specs.Inside.Telling.{Sign, Character, Passage, sign_at}
+use Rattle.mm_xml.specs.Inside.Passages.{is_ordinary, passage_at}
+use Rattle.mm_xml.specs.Inside.Machine.{Order, cut, sign_may, sign_next}
+use Rattle.mm_xml.specs.Inside.Outlines.{Outlined, outline_step, outline_ends, outline_text, holds, outline_from}
+use Rattle.mm_xml.specs.Inside.Builds.{Blanks, Outlines}
 use Rattle.mm_xml.proofs.Spans.{some, span_all, span_whole}
 use Rattle.mm_xml.proofs.OutlineFacts.{on_outline}
 use Rattle.mm_xml.proofs.Passages.{ordinary_sign, ordinary_may, ordinary_next, sign_shorter}

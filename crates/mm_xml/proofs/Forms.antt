@@ -12,7 +12,7 @@ use Rattle.mm_tree.specs.Trees.{none, Tree, one}
 use Rattle.mm_tree.specs.Validity.{are_chars}
 use Rattle.mm_xml.specs.Syntax.{Literal, Reference, Token, Data, Section, Comment, Instruction, Start, Close, Doctype, spelled, Declaration, is_declaration, spelled_declaration, spelled_setting, spelled_if, version_word, encoding_word, standalone_word, declaration_end}
 use Rattle.mm_xml.specs.Grammar.{Bracket, Begin, End, text_brackets, brackets, bracketing, outside, is_inside, is_textual, is_document, is_text, spelled_first, normal, without_mark, characters, SpelledBy, Spells}
-use Rattle.mm_xml.specs.Productions.{is_plain, lines, SpellsRun, is_end, fewer, closes, SpellsElement, is_misc, SpellsMisc, is_prolog, SpellsProlog, is_first, is_marked, SpellsDocument, SpellsText}
+use Rattle.mm_xml.specs.Productions.{is_plain, with_line_feeds, SpellsRun, is_end, fewer, closes, SpellsElement, is_misc, SpellsMisc, is_prolog, SpellsProlog, is_first, is_marked, SpellsDocument, SpellsText}
 use Rattle.mm_xml.proofs.Whole.{same_tokens, rest_spelled}
 use Rattle.mm_xml.proofs.Joins.{together, normal_append, no_return, last_append, last_or, join_behind, join_markup, closed, plain_same, plain_lines, plain_encoded, spelled_append}
 use Rattle.mm_xml.proofs.Elements.{closes_append, run_brackets}
@@ -25,18 +25,18 @@ two_forms bytes t s = elim (or_cases (is_document s.0 s.1) (is_text s.0 s.1) s.2
   | inr h ↦ inr (s.0, s.1, s.2, h)
 ]
 
-document_outside : (first : Option Declaration) (ts : List Token) → is_document first ts ≡ true → outside true 0 ts ≡ true
+pub document_outside : (first : Option Declaration) (ts : List Token) → is_document first ts ≡ true → outside true 0 ts ≡ true
 document_outside None ts h = h
 document_outside (Some d) ts h = (and_parts (is_declaration d) (outside true 0 ts) h).1
 
-text_textual : (first : Option Declaration) (ts : List Token) → is_text first ts ≡ true → list_all is_textual ts ≡ true
+pub text_textual : (first : Option Declaration) (ts : List Token) → is_text first ts ≡ true → list_all is_textual ts ≡ true
 text_textual None ts h = h
 text_textual (Some d) ts h = absurd cc
 
-blank_more : (run : List ℕ) (c : ℕ) → list_all is_space run ≡ true → is_space c ≡ true → list_all is_space (run ++ c ∷ []) ≡ true
+pub blank_more : (run : List ℕ) (c : ℕ) → list_all is_space run ≡ true → is_space c ≡ true → list_all is_space (run ++ c ∷ []) ≡ true
 blank_more run c h k = list_all-append is_space run (c ∷ []) ∙ and_from _ _ h (and_from (is_space c) true k refl)
 
-blank_text : (run : List ℕ) → list_all is_space run ≡ true → text_brackets run ≡ []
+pub blank_text : (run : List ℕ) → list_all is_space run ≡ true → text_brackets run ≡ []
 blank_text run h = ap (λ b. cond b [] (Begin (Words (encode_utf8_all run)) ∷ End [] ∷ [])) h
 
 -- no text stands outside an element, unless it is blank
@@ -51,7 +51,7 @@ blank_outside (Start empty name ws gap ∷ ts) run before blank o t = absurd cc
 blank_outside (Close name gap ∷ ts) run before blank o t = absurd cc
 blank_outside (Doctype gap name ext after ∷ ts) run before blank o t = absurd cc
 
-nothing_there : (kind : Kind) (ps : List Bracket) → [] ≡ Begin kind ∷ ps → ⊥
+pub nothing_there : (kind : Kind) (ps : List Bracket) → [] ≡ Begin kind ∷ ps → ⊥
 nothing_there kind ps e = cc
 
 -- no bytes are and_parts
@@ -76,7 +76,7 @@ marked_lines (c ∷ cs) h = elim (eqb c 65279) as (λ b. eqb c 65279 ≡ b → b
   | false ↦ λ e. refl
 ] refl
 
-pub unmarked_characters : (bytes cs : List ℕ) → lines bytes ≡ cs → is_marked cs ≡ false → characters bytes ≡ cs
+pub unmarked_characters : (bytes cs : List ℕ) → with_line_feeds bytes ≡ cs → is_marked cs ≡ false → characters bytes ≡ cs
 unmarked_characters bytes cs e h = ap (λ (x : List ℕ). normal false x) (unmarked (chars bytes) (marked_lines (chars bytes) (ap is_marked e ∙ h))) ∙ e
 
 -- one byte order mark may stand first
@@ -228,7 +228,7 @@ prolog_unmarked (Close name gap ∷ ps) before zs r h e = refl
 prolog_unmarked (Doctype gap name ext after ∷ ps) before zs r h e = refl
 
 -- what stands behind a declaration, or first
-declared_characters : (first : Option Declaration) (bytes cs : List ℕ) → list_all is_plain (spelled_first first) ≡ true → are_chars bytes ≡ true → lines bytes ≡ cs → is_marked cs ≡ false
+declared_characters : (first : Option Declaration) (bytes cs : List ℕ) → list_all is_plain (spelled_first first) ≡ true → are_chars bytes ≡ true → with_line_feeds bytes ≡ cs → is_marked cs ≡ false
     → (are_chars (encode_utf8_all (spelled_first first) ++ bytes) ≡ true) × (characters (encode_utf8_all (spelled_first first) ++ bytes) ≡ spelled_first first ++ cs)
 declared_characters None bytes cs plain utf8 e h = (utf8, unmarked_characters bytes cs e h)
 declared_characters (Some d) bytes cs plain utf8 e h =

@@ -11,7 +11,7 @@ use Rattle.mm_tree.specs.Characters.{is_char, is_name_char, is_short_name}
 use Rattle.mm_tree.specs.Validity.{are_chars}
 use Rattle.mm_xml.specs.Syntax.{Literal, Reference, is_literal, Written, spelled_written, ending, Token, Data, Section, Comment, Instruction, Start, Close, Doctype, is_token, spelled}
 use Rattle.mm_xml.specs.Grammar.{unbroken, normal, is_inside}
-use Rattle.mm_xml.specs.Productions.{is_plain, lines, PartBy, closes, is_end, fewer}
+use Rattle.mm_xml.specs.Productions.{is_plain, with_line_feeds, PartBy, closes, is_end, fewer}
 use Rattle.mm_xml.proofs.Attributes.{short_chars}
 use Rattle.mm_xml.proofs.EncodingFacts.{encoded_append}
 use Rattle.mm_xml.proofs.Valid.{same_chars, encoded_chars}
@@ -112,7 +112,7 @@ plain_normal (c ∷ cs) h =
     let w = and_parts (is_plain c) (list_all is_plain cs) h in
     ap (λ b. cond b (10 ∷ normal true cs) (c ∷ normal false cs)) (plain_is c w.0).1 ∙ ap (λ (r : List ℕ). c ∷ r) (plain_normal cs w.1)
 
-pub plain_lines : (cs : List ℕ) → list_all is_plain cs ≡ true → lines (encode_utf8_all cs) ≡ cs
+pub plain_lines : (cs : List ℕ) → list_all is_plain cs ≡ true → with_line_feeds (encode_utf8_all cs) ≡ cs
 plain_lines cs h = ap (λ (x : List ℕ). normal false x) (same_chars cs (plain_chars cs h)) ∙ plain_normal cs h
 
 pub plain_same : (cs : List ℕ) → list_all is_plain cs ≡ true → chars (encode_utf8_all cs) ≡ cs
@@ -142,7 +142,7 @@ squares n (Start empty name attributes gap ∷ ts) = squares 0 ts
 squares n (Close name gap ∷ ts) = squares 0 ts
 squares n (Doctype gap name ext after ∷ ts) = squares 0 ts
 
-unbroken_append : (n : ℕ) (xs ys : List Token) → unbroken n (xs ++ ys) ≡ (unbroken n xs && unbroken (squares n xs) ys)
+pub unbroken_append : (n : ℕ) (xs ys : List Token) → unbroken n (xs ++ ys) ≡ (unbroken n xs && unbroken (squares n xs) ys)
 unbroken_append n [] ys = refl
 unbroken_append n (Data (Literal c) ∷ ts) ys =
     elim (eqb c 93) as (λ b. cond b (unbroken (n + 1) (ts ++ ys)) (not (eqb c 62 && leb 2 n) && unbroken 0 (ts ++ ys)) ≡ (cond b (unbroken (n + 1) ts) (not (eqb c 62 && leb 2 n) && unbroken 0 ts) && unbroken (squares (cond b (n + 1) 0) ts) ys)) [
@@ -204,7 +204,7 @@ no_run (Doctype gap name ext after ∷ ts) e n = refl
 
 -- ---- one part behind another
 
-pub part_join : (a b : List ℕ) (xs ys : List Token) → PartBy a xs → PartBy b ys → normal (returned false (chars a)) (chars b) ≡ lines b → unbroken (squares 0 xs) ys ≡ unbroken 0 ys → PartBy (a ++ b) (xs ++ ys)
+pub part_join : (a b : List ℕ) (xs ys : List Token) → PartBy a xs → PartBy b ys → normal (returned false (chars a)) (chars b) ≡ with_line_feeds b → unbroken (squares 0 xs) ys ≡ unbroken 0 ys → PartBy (a ++ b) (xs ++ ys)
 part_join a b xs ys p q e u =
     let t = together a b p.encoded q.encoded in
     record {

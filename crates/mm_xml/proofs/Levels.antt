@@ -9,11 +9,11 @@ use Rattle.mm_tree.specs.Characters.{is_space}
 use Rattle.mm_tree.specs.Trees.{none, Tree, siblings, one, levels}
 use Rattle.mm_xml.specs.declared.error.XmlError.{XmlError}
 use Rattle.mm_xml.specs.declared.error.XmlError.TheVariants as error
-use Rattle.mm_xml.specs.Grammar.{Begin, End, name_of}
-use Rattle.mm_xml.specs.Lexing.{◌>>=◌}
-use Rattle.mm_xml.specs.Telling.{Sign, Character, Named, Passage, Skipped, Opens, Closes, Doctyped, sign_at}
-use Rattle.mm_xml.specs.Machine.{State, Before, Inside, After, fresh, with_child, frame_tree, place, finished, cleared, leaf_at, text_step, open_step, sign_step, depth_of, deepest_of, Order, sign_may, sign_next, read_from}
-use Rattle.mm_xml.specs.Builds.{Steps, MovesTo, Places, PlaceFails, IsPlaced}
+use Rattle.mm_xml.specs.Grammar.{Begin, End, end_name}
+use Rattle.mm_xml.specs.Inside.Lexing.{◌>>=◌}
+use Rattle.mm_xml.specs.Inside.Telling.{Sign, Character, Named, Passage, Skipped, Opens, Closes, Doctyped, sign_at}
+use Rattle.mm_xml.specs.Inside.Machine.{State, Before, Inside, After, fresh, with_child, frame_tree, place, finished, cleared, leaf_at, text_step, open_step, sign_step, depth_of, deepest_of, Order, sign_may, sign_next, read_from}
+use Rattle.mm_xml.specs.Inside.Builds.{Steps, MovesTo, Places, PlaceFails, IsPlaced}
 use Rattle.mm_xml.proofs.Spans.{some_is, bind_some, taken}
 
 levels_more : (xs : List (Tree Kind)) (t : Tree Kind) → levels (siblings (xs ++ t ∷ [])) ≡ max (levels (siblings xs)) (1 + levels t.1)
@@ -39,9 +39,9 @@ begin_grows (After t) new kind e = absurd cc
 
 pub end_grows : (s new : State) (name : List ℕ) → place s (End name) ≡ Some new → Grows false s new
 end_grows Before new name e = absurd cc
-end_grows (Inside f []) new name e = let t = taken (bytes_eq name (name_of f.kind)) (Some (After (frame_tree f))) new e in along false (Inside f []) (After (frame_tree f)) new t.1 (omega arith)
+end_grows (Inside f []) new name e = let t = taken (bytes_eq name (end_name f.kind)) (Some (After (frame_tree f))) new e in along false (Inside f []) (After (frame_tree f)) new t.1 (omega arith)
 end_grows (Inside f (g ∷ gs)) new name e =
-    let t = taken (bytes_eq name (name_of f.kind)) (Some (Inside (with_child g (frame_tree f)) gs)) new e in
+    let t = taken (bytes_eq name (end_name f.kind)) (Some (Inside (with_child g (frame_tree f)) gs)) new e in
     along false (Inside f (g ∷ gs)) (Inside (with_child g (frame_tree f)) gs) new t.1 (omega (arith, levels_more g.before (frame_tree f)))
 end_grows (After t) new name e = absurd cc
 

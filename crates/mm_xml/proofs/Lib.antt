@@ -31,3 +31,9 @@ pub mod Runs
 pub mod Forms
 pub mod Prologs
 pub mod Written
+pub mod Splits
+pub mod Ends
+pub mod ContentParts
+pub mod DocumentParts
+pub mod RunParts
+pub mod TokenParts

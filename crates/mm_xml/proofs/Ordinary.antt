@@ -5,8 +5,8 @@ use Rattle.std.specs.Str.{IsUtf8, chars}
 use Rattle.std.proofs.lemmas.List.{take_at, drop_at}
 use Rattle.std.proofs.lemmas.List.Folds.{list_all-append}
 use Rattle.std.proofs.lemmas.Bool.{and_from}
-use Rattle.mm_xml.specs.Lexing.{span}
-use Rattle.mm_xml.specs.Passages.{is_ordinary}
+use Rattle.mm_xml.specs.Inside.Lexing.{span}
+use Rattle.mm_xml.specs.Inside.Passages.{is_ordinary}
 use Rattle.mm_xml.proofs.Spans.{Stops, span_again}
 use Rattle.mm_xml.proofs.TextFacts.{Cut, cut}
 

@@ -8,20 +8,20 @@ use Rattle.mm_tree.specs.declared.Kind.{Kind}
 use Rattle.mm_tree.specs.declared.Kind.TheVariants.{Words}
 use Rattle.mm_tree.specs.Characters.{is_space}
 use Rattle.mm_tree.specs.Trees.{Tree}
-use Rattle.mm_xml.specs.Grammar.{Begin, End, name_of}
-use Rattle.mm_xml.specs.Lexing.{◌>>=◌, Found}
-use Rattle.mm_xml.specs.Telling.{Sign, Character, Named, Passage, Skipped, Opens, Closes, Doctyped, sign_at}
-use Rattle.mm_xml.specs.Machine.{Frame, State, Before, Inside, After, with_child, frame_tree, place, finished, cleared, leaf_at, text_step, open_step, start_step, end_step, finish_step, sign_step, Order, sign_may, sign_next, read_from, read_as}
-use Rattle.mm_xml.specs.Outlines.{Outlined, outlined, is_over, outline_begin, outline_end, outline_leaf, outline_text, outline_open, outline_start, outline_finish, outline_cleared, outline_step, outline_ends, holds, outline_from, outline_as}
+use Rattle.mm_xml.specs.Grammar.{Begin, End, end_name}
+use Rattle.mm_xml.specs.Inside.Lexing.{◌>>=◌, Found}
+use Rattle.mm_xml.specs.Inside.Telling.{Sign, Character, Named, Passage, Skipped, Opens, Closes, Doctyped, sign_at}
+use Rattle.mm_xml.specs.Inside.Machine.{Frame, State, Before, Inside, After, with_child, frame_tree, place, finished, cleared, leaf_at, text_step, open_step, start_step, end_step, finish_step, sign_step, Order, sign_may, sign_next, read_from, read_as}
+use Rattle.mm_xml.specs.Inside.Outlines.{Outlined, outlined, is_over, outline_begin, outline_end, outline_leaf, outline_text, outline_open, outline_start, outline_finish, outline_cleared, outline_step, outline_ends, holds, outline_from, outline_as}
 use Rattle.std.specs.Borrow.{Bor}
 use Rattle.mm_xml.specs.declared.lexeme.Lexeme.{Lexeme}
-use Rattle.mm_xml.specs.Lexemes.{sign_of, Finds}
+use Rattle.mm_xml.specs.Inside.Lexemes.{sign_of, Finds}
 use Rattle.mm_xml.proofs.Spans.{some, some_is}
 use Rattle.mm_xml.proofs.Enough.{read_enough}
 
 abbrev names_of : List Frame → List (List ℕ)
 names_of [] = []
-names_of (f ∷ fs) = name_of f.kind ∷ names_of fs
+names_of (f ∷ fs) = end_name f.kind ∷ names_of fs
 
 -- what the outline sees of a state
 abbrev seen : State → Outlined
@@ -44,21 +44,21 @@ leaf_seen Before kind = refl
 leaf_seen (Inside f fs) kind = ap (λ b. cond b None (Some (outlined (names_of (f ∷ fs)) true))) (inside_not_over f fs)
 leaf_seen (After t) kind = refl
 
-begin_seen : (s : State) (kind : Kind) → outline_begin (seen s) (name_of kind) ≡ see (place s (Begin kind))
+begin_seen : (s : State) (kind : Kind) → outline_begin (seen s) (end_name kind) ≡ see (place s (Begin kind))
 begin_seen Before kind = refl
-begin_seen (Inside f fs) kind = ap (λ b. cond b None (Some (outlined (name_of kind ∷ names_of (f ∷ fs)) true))) (inside_not_over f fs)
+begin_seen (Inside f fs) kind = ap (λ b. cond b None (Some (outlined (end_name kind ∷ names_of (f ∷ fs)) true))) (inside_not_over f fs)
 begin_seen (After t) kind = refl
 
 end_seen : (s : State) (name : List ℕ) → outline_end (seen s).names (seen s).begun name ≡ see (place s (End name))
 end_seen Before name = refl
-end_seen (Inside f []) name = elim (bytes_eq name (name_of f.kind)) as (λ b. cond b (Some (outlined [] true)) None ≡ see (cond b (Some (After (frame_tree f))) None)) [ true ↦ refl | false ↦ refl ]
-end_seen (Inside f (g ∷ gs)) name = elim (bytes_eq name (name_of f.kind)) as (λ b. cond b (Some (outlined (names_of (g ∷ gs)) true)) None ≡ see (cond b (Some (Inside (with_child g (frame_tree f)) gs)) None)) [ true ↦ refl | false ↦ refl ]
+end_seen (Inside f []) name = elim (bytes_eq name (end_name f.kind)) as (λ b. cond b (Some (outlined [] true)) None ≡ see (cond b (Some (After (frame_tree f))) None)) [ true ↦ refl | false ↦ refl ]
+end_seen (Inside f (g ∷ gs)) name = elim (bytes_eq name (end_name f.kind)) as (λ b. cond b (Some (outlined (names_of (g ∷ gs)) true)) None ≡ see (cond b (Some (Inside (with_child g (frame_tree f)) gs)) None)) [ true ↦ refl | false ↦ refl ]
 end_seen (After t) name = refl
 
 text_seen : (s : State) (run : List ℕ) → outline_text (seen s) (list_all is_space run) ≡ see (text_step s run)
 text_seen s run = elim (list_all is_space run) as (λ b. outline_text (seen s) b ≡ see (cond b (Some s) (leaf_at s (Words (encode_utf8_all run))))) [ true ↦ refl | false ↦ leaf_seen s (Words (encode_utf8_all run)) ]
 
-open_seen : (s : State) (empty : Bool) (kind : Kind) → outline_open (seen s) empty (name_of kind) ≡ see (open_step s empty kind)
+open_seen : (s : State) (empty : Bool) (kind : Kind) → outline_open (seen s) empty (end_name kind) ≡ see (open_step s empty kind)
 open_seen s true kind = leaf_seen s kind
 open_seen s false kind = begin_seen s kind
 
@@ -66,8 +66,8 @@ then_seen : (o : Option State) (f : State → Option State) (g : Outlined → Op
 then_seen None f g e = refl
 then_seen (Some s) f g e = e s
 
-start_seen : (s : State) (run : List ℕ) (empty : Bool) (kind : Kind) → outline_start (seen s) (list_all is_space run) empty (name_of kind) ≡ see (start_step s run empty kind)
-start_seen s run empty kind = ap (λ o. o >>= λ x. outline_open x empty (name_of kind)) (text_seen s run) ∙ then_seen (text_step s run) (λ x. open_step x empty kind) (λ x. outline_open x empty (name_of kind)) (λ x. open_seen x empty kind)
+start_seen : (s : State) (run : List ℕ) (empty : Bool) (kind : Kind) → outline_start (seen s) (list_all is_space run) empty (end_name kind) ≡ see (start_step s run empty kind)
+start_seen s run empty kind = ap (λ o. o >>= λ x. outline_open x empty (end_name kind)) (text_seen s run) ∙ then_seen (text_step s run) (λ x. open_step x empty kind) (λ x. outline_open x empty (end_name kind)) (λ x. open_seen x empty kind)
 
 finish_seen : (s : State) (run : List ℕ) (name : List ℕ) → outline_finish (seen s) (list_all is_space run) name ≡ see (end_step s run name)
 finish_seen s run name = ap (λ o. o >>= λ x. outline_end x.names x.begun name) (text_seen s run) ∙ then_seen (text_step s run) (λ x. place x (End name)) (λ x. outline_end x.names x.begun name) (λ x. end_seen x name)

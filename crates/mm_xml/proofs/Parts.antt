@@ -5,7 +5,7 @@ use Rattle.std.proofs.lemmas.Bool.{eqb-true, and_parts, and_from}
 use Rattle.std.proofs.lemmas.List.{length-append}
 use Rattle.mm_xml.specs.Letters.{referred}
 use Rattle.mm_xml.specs.Syntax.{Part, Literal, Reference, is_part, is_literal, is_within, is_quote, not_semicolon, is_some, spelled_part}
-use Rattle.mm_xml.specs.Lexing.{◌>>=◌, Found, span, after, reference_at, part_at, parts_at}
+use Rattle.mm_xml.specs.Inside.Lexing.{◌>>=◌, Found, span, after, reference_at, part_at, parts_at}
 use Rattle.mm_xml.proofs.Spans.{taken, chosen, some, some_is, bind_some, span_whole, span_all, span_again, after_takes}
 
 pub record PartTakes (cs : List ℕ) (x : Part × List ℕ) : Type 0 where

@@ -5,10 +5,10 @@ use Rattle.std.proofs.lemmas.List.{append-nil, length-append}
 use Rattle.std.proofs.lemmas.Bool.{and_parts}
 use Rattle.mm_xml.specs.Syntax.{is_literal, Literal, Data}
 use Rattle.mm_xml.specs.Grammar.{is_inside}
-use Rattle.mm_xml.specs.Lexing.{◌>>=◌, Found, span, token_at}
-use Rattle.mm_xml.specs.Telling.{Sign, Character, Passage, told, sign_at}
-use Rattle.mm_xml.specs.Passages.{is_ordinary, passage_at}
-use Rattle.mm_xml.specs.Machine.{State, Order, cut, sign_may, sign_next, read_from}
+use Rattle.mm_xml.specs.Inside.Lexing.{◌>>=◌, Found, span, token_at}
+use Rattle.mm_xml.specs.Inside.Telling.{Sign, Character, Passage, told, sign_at}
+use Rattle.mm_xml.specs.Inside.Passages.{is_ordinary, passage_at}
+use Rattle.mm_xml.specs.Inside.Machine.{State, Order, cut, sign_may, sign_next, read_from}
 use Rattle.mm_xml.proofs.Spans.{some, some_is, no, chosen, bind_some, span_all, span_whole}
 use Rattle.mm_xml.proofs.Content.{token_again}
 use Rattle.mm_xml.proofs.Enough.{read_enough, token_shorter}

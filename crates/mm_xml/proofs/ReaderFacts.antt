@@ -10,10 +10,10 @@ use Rattle.mm_tree.specs.Validity.{are_chars, is_valid_tree}
 use Rattle.mm_xml.specs.declared.error.XmlError.{XmlError}
 use Rattle.mm_xml.specs.declared.error.XmlError.TheVariants as error
 use Rattle.mm_xml.specs.Grammar.{Spells, characters, normal}
-use Rattle.mm_xml.specs.Machine.{Order, read_as, read_all}
-use Rattle.mm_xml.specs.Outlines.{outline_as}
-use Rattle.mm_xml.specs.Answers.{IsShallow, IsTooDeep, AnswersFor}
-use Rattle.mm_xml.specs.Builds.{FinishFails, Outlines, Reads, Decodes}
+use Rattle.mm_xml.specs.Inside.Machine.{Order, read_as, read_all}
+use Rattle.mm_xml.specs.Inside.Outlines.{outline_as}
+use Rattle.mm_xml.specs.Refusals.{IsShallow, IsTooDeep, AnswersFor}
+use Rattle.mm_xml.specs.Inside.Builds.{FinishFails, Outlines, Reads, Decodes}
 use Rattle.mm_xml.proofs.Spans.{some_is}
 use Rattle.mm_xml.proofs.OutlineFacts.{outline_reads}
 use Rattle.mm_xml.proofs.Whole.{read_spelled, spelled_read, one_tree}

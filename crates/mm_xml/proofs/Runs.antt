@@ -7,9 +7,9 @@ use Rattle.std.proofs.lemmas.Bool.{eqb-true, and_parts, and_from, or_cases}
 use Rattle.std.proofs.lemmas.List.{append-nil}
 use Rattle.mm_tree.specs.Characters.{is_name}
 use Rattle.mm_xml.specs.Letters.{referred, is_free}
-use Rattle.mm_xml.specs.Syntax.{Literal, Reference, is_literal, not_semicolon, is_some, named, Token, Data, Section, Comment, Instruction, Start, Close, Doctype, is_token, spelled}
+use Rattle.mm_xml.specs.Syntax.{Literal, Reference, is_literal, not_semicolon, is_some, if_named, Token, Data, Section, Comment, Instruction, Start, Close, Doctype, is_token, spelled}
 use Rattle.mm_xml.specs.Grammar.{unbroken, is_textual, normal}
-use Rattle.mm_xml.specs.Productions.{is_plain, lines, PartBy, text_of, SpellsRun, ends_run, ends_markup}
+use Rattle.mm_xml.specs.Productions.{is_plain, with_line_feeds, PartBy, characters_of, SpellsRun, ends_run, ends_markup}
 use Rattle.mm_xml.proofs.Attributes.{name_chars}
 use Rattle.mm_xml.proofs.Joins.{all_append, part_join, join_markup, join_nothing, part_of, part_of_one, no_part, plain_append, name_plain, no_return, last_or, last_append, squares}
 
@@ -20,15 +20,15 @@ no_text = ([], no_part, refl, refl)
 
 -- ---- character data
 
-abbrev literals : List ℕ → List Token
+abbrev pub literals : List ℕ → List Token
 literals [] = []
 literals (c ∷ cs) = Data (Literal c) ∷ literals cs
 
-literals_spelled : (cs : List ℕ) → flat_map spelled (literals cs) ≡ cs
+pub literals_spelled : (cs : List ℕ) → flat_map spelled (literals cs) ≡ cs
 literals_spelled [] = refl
 literals_spelled (c ∷ cs) = ap (λ (x : List ℕ). c ∷ x) (literals_spelled cs)
 
-literals_text : (cs : List ℕ) → flat_map text_of (literals cs) ≡ cs
+pub literals_text : (cs : List ℕ) → flat_map characters_of (literals cs) ≡ cs
 literals_text [] = refl
 literals_text (c ∷ cs) = ap (λ (x : List ℕ). c ∷ x) (literals_text cs)
 
@@ -40,7 +40,7 @@ literals_textual : (cs : List ℕ) → list_all is_textual (literals cs) ≡ tru
 literals_textual [] = refl
 literals_textual (c ∷ cs) = literals_textual cs
 
-abbrev close_mark : List ℕ
+abbrev pub close_mark : List ℕ
 close_mark = 93 ∷ 93 ∷ 62 ∷ []
 
 -- so many square brackets before the characters
@@ -97,7 +97,7 @@ reference body c plain free e = (
   Data (Reference body) ∷ [],
   part_of_one (Data (Reference body)) (and_from _ _ free (ap is_some e)) (plain_append body (59 ∷ []) plain refl) refl,
   refl,
-  ap (λ o. named o ++ []) e,
+  ap (λ o. if_named o ++ []) e,
 )
 
 pub section : (cs : List ℕ) → IsTrue (is_token (Section cs)) → IsTrue (list_all is_plain cs) → SpellsRun (encode_utf8_all (spelled (Section cs))) cs
@@ -111,9 +111,9 @@ instruction name cs is plain = (Instruction name cs ∷ [], part_of_one (Instruc
 
 -- ---- one behind the other
 
-text_append : (xs ys : List Token) → flat_map text_of (xs ++ ys) ≡ flat_map text_of xs ++ flat_map text_of ys
+pub text_append : (xs ys : List Token) → flat_map characters_of (xs ++ ys) ≡ flat_map characters_of xs ++ flat_map characters_of ys
 text_append [] ys = refl
-text_append (x ∷ xs) ys = ap (λ (r : List ℕ). text_of x ++ r) (text_append xs ys) ∙ sym (append_assoc (text_of x) (flat_map text_of xs) (flat_map text_of ys))
+text_append (x ∷ xs) ys = ap (λ (r : List ℕ). characters_of x ++ r) (text_append xs ys) ∙ sym (append_assoc (characters_of x) (flat_map characters_of xs) (flat_map characters_of ys))
 
 -- a square bracket that counts comes last
 last_square : (xs : List Token) (d n : ℕ) → (eqb d 93 ≡ false → n ≡ 0) → eqb (last_or d (flat_map spelled xs)) 93 ≡ false → squares n xs ≡ 0
@@ -148,13 +148,13 @@ meeting b h = from (chars b) refl h
     from [] e h = Nothing e
     from (c ∷ cs) e h = Markup c cs e (mark c h)
 
-pub joined_text : (a b text more : List ℕ) → SpellsRun a text → SpellsRun b more → IsTrue (ends_run (chars b) || ends_markup (lines a)) → SpellsRun (a ++ b) (text ++ more)
-joined_text a b text more s u h = elim (or_cases (ends_run (chars b)) (ends_markup (lines a)) h) [
+pub joined_text : (a b text more : List ℕ) → SpellsRun a text → SpellsRun b more → IsTrue (ends_run (chars b) || ends_markup (with_line_feeds a)) → SpellsRun (a ++ b) (text ++ more)
+joined_text a b text more s u h = elim (or_cases (ends_run (chars b)) (ends_markup (with_line_feeds a)) h) [
   | inl k ↦ elim (meeting b k) [
     | Nothing e ↦ joined (join_nothing a b s.0 u.0 s.1 u.1 e)
     | Markup k r e m ↦ joined (join_markup a b s.0 u.0 s.1 u.1 (k, r, e, m))
   ]
-  | inr k ↦ elim (markup_last (lines a) 0 k) [
+  | inr k ↦ elim (markup_last (with_line_feeds a) 0 k) [
     | inl e ↦ joined (behind (ap (λ n. eqb n 10) e) (ap (λ n. eqb n 93) e))
     | inr e ↦ joined (behind (ap (λ n. eqb n 10) e) (ap (λ n. eqb n 93) e))
   ]
@@ -163,5 +163,5 @@ joined_text a b text more s u h = elim (or_cases (ends_run (chars b)) (ends_mark
     joined : PartBy (a ++ b) (s.0 ++ u.0) → SpellsRun (a ++ b) (text ++ more)
     joined part = (s.0 ++ u.0, part, all_append is_textual s.0 u.0 s.2 u.2, text_append s.0 u.0 ∙ (λ i. s.3 i ++ u.3 i))
 
-    behind : eqb (last_or 0 (lines a)) 10 ≡ false → eqb (last_or 0 (lines a)) 93 ≡ false → PartBy (a ++ b) (s.0 ++ u.0)
-    behind feed square = part_join a b s.0 u.0 s.1 u.1 (ap (λ r. normal r (chars b)) (no_return (chars a) (lines a) refl feed)) (ap (λ n. unbroken n u.0) (last_square s.0 0 0 (λ k. refl) (ap (λ (x : List ℕ). eqb (last_or 0 x) 93) (sym s.1.spelled_so) ∙ square)))
+    behind : eqb (last_or 0 (with_line_feeds a)) 10 ≡ false → eqb (last_or 0 (with_line_feeds a)) 93 ≡ false → PartBy (a ++ b) (s.0 ++ u.0)
+    behind feed square = part_join a b s.0 u.0 s.1 u.1 (ap (λ r. normal r (chars b)) (no_return (chars a) (with_line_feeds a) refl feed)) (ap (λ n. unbroken n u.0) (last_square s.0 0 0 (λ k. refl) (ap (λ (x : List ℕ). eqb (last_or 0 x) 93) (sym s.1.spelled_so) ∙ square)))

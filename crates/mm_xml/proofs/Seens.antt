@@ -4,7 +4,7 @@ use Rattle.std.specs.List.{list_any}
 use Rattle.std.specs.Str.{bytes_eq}
 use Rattle.std.proofs.lemmas.Slice.Eq.{bytes_eq-Decides}
 use Rattle.mm_tree.specs.Validity.{are_distinct}
-use Rattle.mm_xml.specs.Distinct.{differ_from}
+use Rattle.mm_xml.specs.Inside.Distinct.{differ_from}
 
 -- every name differs from those seen
 abbrev apart : List (List ℕ) → List (List ℕ) → Bool

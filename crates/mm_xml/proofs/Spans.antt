@@ -4,7 +4,7 @@ use Rattle.std.specs.List.{list_all, prefix_len}
 use Rattle.std.proofs.lemmas.Bool.{eqb-true, and_parts, and_from}
 use Rattle.std.proofs.lemmas.List.{take-append-drop, take_at, drop_at, length-append}
 use Rattle.mm_xml.specs.Letters.{starts, is_free}
-use Rattle.mm_xml.specs.Lexing.{◌>>=◌, span, up_to, after}
+use Rattle.mm_xml.specs.Inside.Lexing.{◌>>=◌, span, up_to, after}
 
 pub taken : {A : Type 0} (b : Bool) (o : Option A) (y : A) → cond b o None ≡ Some y → (b ≡ true) × (o ≡ Some y)
 taken true o y e = (refl, e)

@@ -7,7 +7,7 @@ use Rattle.std.proofs.lemmas.List.{length-append}
 use Rattle.mm_tree.specs.Characters.{is_char, is_space, is_name_char, is_name, is_short_name}
 use Rattle.mm_xml.specs.Letters.{is_gap, is_free}
 use Rattle.mm_xml.specs.Syntax.{Written, is_written, spelled_written, differ, attribute_of, ending, Token, Section, Comment, Instruction, Start, is_token, spelled, is_rest, is_reserved}
-use Rattle.mm_xml.specs.Lexing.{◌>>=◌, Found, span, up_to, after, ending_at, starts_name, attributes_at, start_end_at, start_at, comment_at, section_at, instruction_at}
+use Rattle.mm_xml.specs.Inside.Lexing.{◌>>=◌, Found, span, up_to, after, ending_at, starts_name, attributes_at, start_end_at, start_at, comment_at, section_at, instruction_at}
 use Rattle.mm_xml.proofs.Spans.{taken, chosen, some, no, some_is, bind_some, span_whole, span_all, span_again, after_takes, Stops, up_to_takes, up_to_again}
 use Rattle.mm_xml.proofs.Attributes.{attributes_take, attributes_again, attributes_len, short_chars, space_no_name, name_chars, not_space_stops}
 

@@ -15,10 +15,10 @@ use Rattle.std.proofs.lemmas.Str.{chars-nil, chars-append, chars-IsAscii, chars_
 use Rattle.std.proofs.lemmas.Bool.{and_parts, and_from}
 use Rattle.mm_tree.specs.Characters.{is_name, is_short_name}
 use Rattle.mm_xml.specs.Letters.{starts, is_free, is_ascii}
-use Rattle.mm_xml.specs.Lexing.{up_to}
+use Rattle.mm_xml.specs.Inside.Lexing.{up_to}
 use Rattle.mm_xml.specs.Grammar.{normal}
-use Rattle.mm_xml.specs.Lexemes.{Rests, Splits}
-use Rattle.mm_xml.specs.Prefix.{stripped}
+use Rattle.mm_xml.specs.Inside.Lexemes.{Rests, Splits}
+use Rattle.mm_xml.specs.Inside.Prefix.{stripped}
 use Rattle.mm_xml.proofs.Spans.{taken, some_is, starts_takes, up_to_takes, up_to_again}
 
 -- ---- no characters

@@ -8,8 +8,8 @@ use Rattle.mm_tree.specs.Characters.{is_space}
 use Rattle.mm_xml.specs.Syntax.{Literal, Reference, Token, Data, Section, Comment, Instruction, Start, Close, Doctype}
 use Rattle.mm_xml.specs.Grammar.{Bracket, End, text_brackets, start_brackets, brackets, unbroken, outside, is_inside, is_textual}
 use Rattle.mm_xml.specs.Syntax.{meant}
-use Rattle.mm_xml.specs.Lexing.{◌>>=◌}
-use Rattle.mm_xml.specs.Machine.{State, place_all, finished, build, cleared, Order, may, next, in_turn, accept}
+use Rattle.mm_xml.specs.Inside.Lexing.{◌>>=◌}
+use Rattle.mm_xml.specs.Inside.Machine.{State, place_all, finished, build, cleared, Order, may, next, in_turn, accept}
 use Rattle.mm_xml.proofs.Spans.{no}
 use Rattle.mm_xml.proofs.Builds.{place_all_append}
 use Rattle.std.specs.List.{list_all}

@@ -16,9 +16,9 @@ use Rattle.mm_tree.specs.declared.Attribute.{Attribute}
 use Rattle.mm_tree.specs.Characters.{is_char, is_space, is_short_name, is_name}
 use Rattle.mm_tree.specs.Trees.{Trees, none, node, Tree, one, every, has_some}
 use Rattle.mm_tree.specs.Validity.{are_chars, is_node_name, is_valid_attribute, attribute_size, is_valid_kind, is_valid_node, is_valid_tree, is_element, piece_count, pieces}
-use Rattle.mm_xml.specs.Letters.{referred, by_number, by_name, numbered, is_digits, number, is_gap}
-use Rattle.mm_xml.specs.Syntax.{Part, Literal, Reference, is_part, is_literal, is_within, is_some, spelled_part, Written, is_written, spelled_written, named, meant, meant_in_value, attribute_of, differ, Token, Data, Section, Comment, Instruction, Start, Close, Doctype, ending, is_token, spelled, Declaration, is_declaration}
-use Rattle.mm_xml.specs.Grammar.{Bracket, Begin, End, name_of, text_brackets, start_brackets, brackets, bracketing, outside, is_textual, spelled_first, is_document, has_form, Spells, normal, without_mark}
+use Rattle.mm_xml.specs.Letters.{referred, by_number, by_name, numbered, is_digits, digits_value, is_gap}
+use Rattle.mm_xml.specs.Syntax.{Part, Literal, Reference, is_part, is_literal, is_within, is_some, spelled_part, Written, is_written, spelled_written, if_named, meant, meant_in_value, attribute_of, differ, Token, Data, Section, Comment, Instruction, Start, Close, Doctype, ending, is_token, spelled, Declaration, is_declaration}
+use Rattle.mm_xml.specs.Grammar.{Bracket, Begin, End, end_name, text_brackets, start_brackets, brackets, bracketing, outside, is_textual, spelled_first, is_document, has_form, Spells, normal, without_mark}
 use Rattle.mm_xml.proofs.Spans.{chosen}
 use Rattle.mm_xml.proofs.Attributes.{written_facts, attributes_len}
 use Rattle.mm_xml.proofs.EncodingFacts.{encoded_append}
@@ -84,7 +84,7 @@ either_char true o p h k = h
 either_char false o p h k = k
 
 numbered_char : (base : ℕ) (ds : List ℕ) → is_char_if (numbered base ds)
-numbered_char base ds = if_char (is_digits base ds) (number base 0 ds)
+numbered_char base ds = if_char (is_digits base ds) (digits_value base 0 ds)
   where
     if_char : (b : Bool) (n : ℕ) → is_char_if (cond (b && is_char n) (Some n) None)
     if_char false n = tt
@@ -110,11 +110,11 @@ referred_char (c ∷ cs) = either_char (eqb c 35) (by_number cs) (by_name (c ∷
     name_char body = five (bytes_eq body (108 ∷ 116 ∷ [])) (bytes_eq body (103 ∷ 116 ∷ [])) (bytes_eq body (97 ∷ 109 ∷ 112 ∷ [])) (bytes_eq body (97 ∷ 112 ∷ 111 ∷ 115 ∷ [])) (bytes_eq body (113 ∷ 117 ∷ 111 ∷ 116 ∷ []))
 
 -- what a reference means: one character, of at most the bytes of the reference
-named_chars : (o : Option ℕ) → is_char_if o → list_all is_char (named o) ≡ true
+named_chars : (o : Option ℕ) → is_char_if o → list_all is_char (if_named o) ≡ true
 named_chars None h = refl
 named_chars (Some c) h = and_from (is_char c) true h refl
 
-named_size : (o : Option ℕ) → size (named o) ≤ 4
+named_size : (o : Option ℕ) → size (if_named o) ≤ 4
 named_size None = omega arith
 named_size (Some c) = omega (arith, size_first c [], (byte_bounds c).1)
 
@@ -139,7 +139,7 @@ record PartFit (meaning spelling : List ℕ) : Type 0 where
 literal_char : (c : ℕ) → is_literal c ≡ true → is_char c ≡ true
 literal_char c h = (and_parts (is_char c) (not (eqb c 60)) (and_parts (is_char c && not (eqb c 60)) (not (eqb c 38)) h).0).0
 
-reference_fits : (body : List ℕ) → is_part (Reference body) ≡ true → PartFit (named (referred body)) (spelled_part (Reference body))
+reference_fits : (body : List ℕ) → is_part (Reference body) ≡ true → PartFit (if_named (referred body)) (spelled_part (Reference body))
 reference_fits body h =
     let long = body_long body (and_parts _ (is_some (referred body)) h).1 in
     record {
@@ -250,8 +250,8 @@ is_leaf (Words text) (node k inner rest) ps h = absurd h
 fair_trees : (ts : Trees Kind) (ps : List Bracket) → Fair (bracketing ts ++ ps) → (every is_valid_node ts ≡ true) × Fair ps
 fair_trees none ps h = (refl, h)
 fair_trees (node k inner rest) ps h =
-    let behind = End (name_of k) ∷ (bracketing rest ++ ps) in
-    let apart = append_assoc (bracketing inner) (End (name_of k) ∷ bracketing rest) ps in
+    let behind = End (end_name k) ∷ (bracketing rest ++ ps) in
+    let apart = append_assoc (bracketing inner) (End (end_name k) ∷ bracketing rest) ps in
     let i = fair_trees inner behind (subst Fair apart h.2) in
     let r = fair_trees rest ps i.1 in
     let leaf = is_leaf k inner behind (subst (Leafy k) apart h.1) in
@@ -272,7 +272,7 @@ weight_append (End n ∷ ps) qs = weight_append ps qs
 
 pub weight_trees : (ts : Trees Kind) → weight (bracketing ts) ≡ pieces ts
 weight_trees none = refl
-weight_trees (node k inner rest) = omega (arith, weight_append (bracketing inner) (End (name_of k) ∷ bracketing rest), weight_trees inner, weight_trees rest)
+weight_trees (node k inner rest) = omega (arith, weight_append (bracketing inner) (End (end_name k) ∷ bracketing rest), weight_trees inner, weight_trees rest)
 
 -- ---- pieces
 

@@ -10,11 +10,11 @@ use Rattle.mm_tree.specs.declared.Kind.TheVariants.{Element, Words}
 use Rattle.mm_tree.specs.Characters.{is_space}
 use Rattle.mm_tree.specs.Trees.{none, Tree, one}
 use Rattle.mm_xml.specs.Syntax.{Declaration, is_declaration, Literal, Reference, attribute_of, Token, Data, Section, Comment, Instruction, Start, Close, Doctype, is_token, spelled}
-use Rattle.mm_xml.specs.Grammar.{Bracket, Begin, End, name_of, text_brackets, start_brackets, brackets, unbroken, outside, is_textual, bracketing, is_document, has_form, spelled_first, SpelledBy, Spells, characters}
-use Rattle.mm_xml.specs.Lexing.{◌>>=◌, Found, token_at}
-use Rattle.mm_xml.specs.Telling.{Sign, told}
-use Rattle.mm_xml.specs.Machine.{State, Before, Inside, After, with_child, place, place_all, finished, build, step, cleared, leaf_at, text_step, open_step, sign_step, Order, sign_may, sign_next, may, next, in_turn, accept, read_from, document, text, read_as, or_else, read_plain, read_behind, read_all}
-use Rattle.mm_xml.specs.Declaring.{after_declaration}
+use Rattle.mm_xml.specs.Grammar.{Bracket, Begin, End, end_name, text_brackets, start_brackets, brackets, unbroken, outside, is_textual, bracketing, is_document, has_form, spelled_first, SpelledBy, Spells, characters}
+use Rattle.mm_xml.specs.Inside.Lexing.{◌>>=◌, Found, token_at}
+use Rattle.mm_xml.specs.Inside.Telling.{Sign, told}
+use Rattle.mm_xml.specs.Inside.Machine.{State, Before, Inside, After, with_child, place, place_all, finished, build, step, cleared, leaf_at, text_step, open_step, sign_step, Order, sign_may, sign_next, may, next, in_turn, accept, read_from, document, text, read_as, or_else, read_plain, read_behind, read_all}
+use Rattle.mm_xml.specs.Inside.Declaring.{after_declaration}
 use Rattle.mm_xml.proofs.Spans.{taken, some, no, some_is, bind_some}
 use Rattle.mm_xml.proofs.Builds.{place_all_append, build_full, build_sound}
 use Rattle.mm_xml.proofs.Turns.{turns, text_turns, accept_is}
@@ -30,9 +30,9 @@ last_one : (o : Option State) → o ≡ (o >>= λ x. Some x)
 last_one None = refl
 last_one (Some x) = refl
 
-leaf_is : (s : State) (kind : Kind) → leaf_at s kind ≡ place_all s (Begin kind ∷ End (name_of kind) ∷ [])
-leaf_is Before kind = ap (λ b. cond b (Some (After (kind, none))) None >>= λ x. Some x) (sym (same (name_of kind)))
-leaf_is (Inside f fs) kind = ap (λ b. cond b (Some (Inside (with_child f (kind, none)) fs)) None >>= λ x. Some x) (sym (same (name_of kind)))
+leaf_is : (s : State) (kind : Kind) → leaf_at s kind ≡ place_all s (Begin kind ∷ End (end_name kind) ∷ [])
+leaf_is Before kind = ap (λ b. cond b (Some (After (kind, none))) None >>= λ x. Some x) (sym (same (end_name kind)))
+leaf_is (Inside f fs) kind = ap (λ b. cond b (Some (Inside (with_child f (kind, none)) fs)) None >>= λ x. Some x) (sym (same (end_name kind)))
 leaf_is (After t) kind = refl
 
 pub text_is : (s : State) (run : List ℕ) → text_step s run ≡ place_all s (text_brackets run)
@@ -42,7 +42,7 @@ text_is s run =
       | false ↦ leaf_is s (Words (encode_utf8_all run))
     ]
 
-open_is : (s : State) (empty : Bool) (kind : Kind) → open_step s empty kind ≡ place_all s (Begin kind ∷ (cond empty (End (name_of kind) ∷ []) []))
+open_is : (s : State) (empty : Bool) (kind : Kind) → open_step s empty kind ≡ place_all s (Begin kind ∷ (cond empty (End (end_name kind) ∷ []) []))
 open_is s true kind = leaf_is s kind
 open_is s false kind = last_one (place s (Begin kind))
 

@@ -14,7 +14,7 @@ use Rattle.mm_tree.specs.Numbering.{Labelled, node_step, node_of, forest_of}
 use Rattle.mm_xml.specs.declared.writer.Task.{Task}
 use Rattle.mm_xml.specs.declared.writer.Task.TheVariants.{Siblings}
 use Rattle.mm_xml.specs.Writing.{tag_front, end_tag, written_node, written, without_labels}
-use Rattle.mm_xml.specs.Pending.{written_nodes, written_task, written_tasks, turns_of_trees, turns_of_task, turns_of}
+use Rattle.mm_xml.specs.Inside.Pending.{written_nodes, written_task, written_tasks, turns_of_trees, turns_of_task, turns_of}
 
 written_push : (ts : List Task) (t : Task) → written_tasks (ts ++ t ∷ []) ≡ written_task t ++ written_tasks ts
 written_push [] t = sym (append-nil (written_task t))

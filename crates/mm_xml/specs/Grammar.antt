@@ -14,9 +14,9 @@ pub data Bracket : Type 0 where
   Begin : Kind → Bracket
   End : List ℕ → Bracket
 
-abbrev pub name_of : Kind → List ℕ
-name_of (Element name attributes) = name
-name_of (Words text) = []
+abbrev pub end_name : Kind → List ℕ
+end_name (Element name attributes) = name
+end_name (Words text) = []
 
 abbrev pub text_brackets : List ℕ → List Bracket
 text_brackets run = if list_all is_space run then [] else Begin (Words (encode_utf8_all run)) ∷ End [] ∷ []
@@ -73,7 +73,7 @@ is_textual t = false
 
 abbrev pub bracketing : Trees Kind → List Bracket
 bracketing none = []
-bracketing (node kind inner rest) = Begin kind ∷ bracketing inner ++ End (name_of kind) ∷ bracketing rest
+bracketing (node kind inner rest) = Begin kind ∷ bracketing inner ++ End (end_name kind) ∷ bracketing rest
 
 -- ---- the two forms
 

@@ -13,9 +13,9 @@ is_gap (c ∷ cs) = list_all is_space (c ∷ cs)
 abbrev pub digit : ℕ → ℕ
 digit c = if between 48 57 c then c - 48 else (if between 65 70 c then c - 55 else (if between 97 102 c then c - 87 else 16))
 
-abbrev pub number : ℕ → ℕ → List ℕ → ℕ
-number base n [] = n
-number base n (d ∷ ds) = number base (base * n + digit d) ds
+abbrev pub digits_value : ℕ → ℕ → List ℕ → ℕ
+digits_value base n [] = n
+digits_value base n (d ∷ ds) = digits_value base (base * n + digit d) ds
 
 abbrev pub is_digits : ℕ → List ℕ → Bool
 is_digits base [] = false
@@ -23,7 +23,7 @@ is_digits base (d ∷ ds) = list_all (λ c. nat_lt (digit c) base) (d ∷ ds)
 
 -- the character with that number, where it's a Char
 abbrev pub numbered : ℕ → List ℕ → Option ℕ
-numbered base ds = if is_digits base ds && is_char (number base 0 ds) then Some (number base 0 ds) else None
+numbered base ds = if is_digits base ds && is_char (digits_value base 0 ds) then Some (digits_value base 0 ds) else None
 
 -- after a `#`
 abbrev pub by_number : List ℕ → Option ℕ

@@ -17,27 +17,27 @@ abbrev pub is_plain : ℕ → Bool
 is_plain c = is_char c && not (c == 13)
 
 -- the characters of bytes within a document, where no byte order mark is dropped
-abbrev pub lines : List ℕ → List ℕ
-lines bytes = normal false (chars bytes)
+abbrev pub with_line_feeds : List ℕ → List ℕ
+with_line_feeds bytes = normal false (chars bytes)
 
 -- the bytes are UTF-8 of Chars, the tokens spell them, and `]]>` stands in no run of character data
 pub record PartBy (bytes : List ℕ) (tokens : List Token) : Type 0 where
   pub encoded : IsTrue (are_chars bytes)
   pub each : IsTrue (list_all is_token tokens)
-  pub spelled_so : lines bytes ≡ flat_map spelled tokens
+  pub spelled_so : with_line_feeds bytes ≡ flat_map spelled tokens
   pub whole : IsTrue (unbroken 0 tokens)
 
 -- ---- text
 
 -- the characters that a token adds to the text it stands in
-abbrev pub text_of : Token → List ℕ
-text_of (Data p) = meant p
-text_of (Section cs) = cs
-text_of t = []
+abbrev pub characters_of : Token → List ℕ
+characters_of (Data p) = meant p
+characters_of (Section cs) = cs
+characters_of t = []
 
 -- CharData (14), Reference (67), CDSect (18), Comment (15) and PI (16) in any mixture, and the text that they make together
 abbrev pub SpellsRun : List ℕ → List ℕ → Type 0
-SpellsRun bytes text = (tokens : List Token) × PartBy bytes tokens × IsTrue (list_all is_textual tokens) × (flat_map text_of tokens ≡ text)
+SpellsRun bytes text = (tokens : List Token) × PartBy bytes tokens × IsTrue (list_all is_textual tokens) × (flat_map characters_of tokens ≡ text)
 
 -- a run of character data doesn't go on there: the end, `<` or `&`
 abbrev pub ends_run : List ℕ → Bool

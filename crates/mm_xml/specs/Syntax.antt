@@ -55,18 +55,18 @@ abbrev pub spelled_written : Written → List ℕ
 spelled_written a = a.gap ++ (a.name ++ (a.before ++ (61 ∷ (a.after ++ (a.quote ∷ (flat_map spelled_part a.parts ++ a.quote ∷ []))))))
 
 -- the characters of the reference, none where there is no such reference
-abbrev pub named : Option ℕ → List ℕ
-named None = []
-named (Some c) = c ∷ []
+abbrev pub if_named : Option ℕ → List ℕ
+if_named None = []
+if_named (Some c) = c ∷ []
 
 abbrev pub meant : Part → List ℕ
 meant (Literal c) = c ∷ []
-meant (Reference body) = named (referred body)
+meant (Reference body) = if_named (referred body)
 
 -- in a value a literal white space is a space
 abbrev pub meant_in_value : Part → List ℕ
 meant_in_value (Literal c) = (if is_space c then 32 else c) ∷ []
-meant_in_value (Reference body) = named (referred body)
+meant_in_value (Reference body) = if_named (referred body)
 
 abbrev pub attribute_of : Written → Attribute
 attribute_of a = record { name = encode_utf8_all a.name; value = encode_utf8_all (flat_map meant_in_value a.parts) }

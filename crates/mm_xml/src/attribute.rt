@@ -1,11 +1,13 @@
+//! Names, and the attributes of a start tag with their values.
+
 ghost use Rattle.std.specs.Prelude.{◌≡◌, [], length, IfOk};
 ghost use Rattle.std.specs.List.{list_all};
 ghost use Rattle.std.specs.Str.{chars, encode_utf8_all};
 ghost use Rattle.mm_tree.specs.Characters.{is_name as name_is, is_name_char as name_char_is, is_short_name as short_name_is};
 ghost use Rattle.mm_xml.specs.Syntax.{is_quote as quote_is, differ};
-ghost use Rattle.mm_xml.specs.Lexing.{part_at, parts_at, value_at, attributes_at, equals_at, starts_name as name_starts};
-ghost use Rattle.mm_xml.specs.Telling.{tell_parts, tell_character, tell_value, tell_attributes, attribute_at};
-ghost use Rattle.mm_xml.specs.Lexemes.{Gets, GetsText, GetsCharacter, Rests};
+ghost use Rattle.mm_xml.specs.Inside.Lexing.{part_at, parts_at, value_at, attributes_at, equals_at, starts_name as name_starts};
+ghost use Rattle.mm_xml.specs.Inside.Telling.{tell_parts, tell_character, tell_value, tell_attributes, attribute_at};
+ghost use Rattle.mm_xml.specs.Inside.Lexemes.{Gets, GetsText, GetsCharacter, Rests};
 
 use crate::letters::{is_name_char, is_name_start, is_space, name_span, space_span};
 use crate::reference::{Part, part_of};
@@ -92,7 +94,7 @@ fn value_to(alloc: Global, quote: char, text: &str) -> Result<Option<(String, &s
 }
 
 /// A value in its quotes.
-#[tactic(auto, unfolding(crate::specs::Lexing::value_at))]
+#[tactic(auto, unfolding(crate::specs::Inside::Lexing::value_at))]
 fn value_of(alloc: Global, text: &str) -> Result<Option<(Text, &str)>, AllocError>
     ensures { IfOk result (λ r. Gets r (tell_value (value_at (chars text.now)))) }
 {

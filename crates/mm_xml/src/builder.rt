@@ -1,8 +1,10 @@
+//! Builds the tree from the lexemes of a text.
+
 ghost use Rattle.std.specs.Prelude.{◌≡◌, ◌≤◌, []};
 ghost use Rattle.std.specs.Str.{chars};
-ghost use Rattle.mm_xml.specs.Lexemes.{sign_of, chars_of};
-ghost use Rattle.mm_xml.specs.Machine.{Before, sign_step, finish_step, read_as};
-ghost use Rattle.mm_xml.specs.Builds.{state_of, order_of, Advances, Finishes, Gives};
+ghost use Rattle.mm_xml.specs.Inside.Lexemes.{sign_of, chars_of};
+ghost use Rattle.mm_xml.specs.Inside.Machine.{Before, sign_step, finish_step, read_as};
+ghost use Rattle.mm_xml.specs.Inside.Builds.{state_of, order_of, Advances, Finishes, Gives};
 
 use crate::error::XmlError;
 use crate::lexeme::{Lexeme, next_passage};

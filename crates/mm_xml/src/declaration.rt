@@ -1,11 +1,13 @@
+//! The XML declaration: what stands behind one that is well formed.
+
 ghost use Rattle.std.specs.Prelude.{◌≡◌, IsTrue};
 ghost use Rattle.std.specs.List.{list_all};
 ghost use Rattle.std.specs.Str.{chars};
 ghost use Rattle.mm_tree.specs.Characters.{between as between_is};
 ghost use Rattle.mm_xml.specs.Letters.{is_ascii};
 ghost use Rattle.mm_xml.specs.Syntax.{are_digits as digits_are, is_version as version_is, is_encoding as encoding_is, is_standalone as standalone_is, encoding_word, standalone_word};
-ghost use Rattle.mm_xml.specs.Declaring.{quoted_text_at, setting_at, passed, after_version as version_after, after_encoding as encoding_after, after_standalone as standalone_after, after_declaration as declaration_after};
-ghost use Rattle.mm_xml.specs.Lexemes.{Rests, Splits};
+ghost use Rattle.mm_xml.specs.Inside.Declaring.{quoted_text_at, setting_at, passed, after_version as version_after, after_encoding as encoding_after, after_standalone as standalone_after, after_declaration as declaration_after};
+ghost use Rattle.mm_xml.specs.Inside.Lexemes.{Rests, Splits};
 
 use crate::attribute::{after_equals, is_quote};
 use crate::doctype::{is_gap, text_len};
@@ -168,7 +170,7 @@ fn after_standalone(text: &str) -> Option<&str>
 }
 
 /// What comes after XMLDecl, production 23.
-#[tactic(auto, unfolding(crate::specs::Declaring::after_declaration))]
+#[tactic(auto, unfolding(crate::specs::Inside::Declaring::after_declaration))]
 pub fn after_declaration(text: &str) -> Option<&str>
     ensures { Rests result (declaration_after (chars text.now)) }
 {

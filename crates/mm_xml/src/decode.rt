@@ -1,8 +1,10 @@
+//! From bytes to characters: UTF-8, the byte order mark and line ends.
+
 ghost use Rattle.std.specs.Prelude.{◌≡◌, IfOk, IsTrue, false, true};
 ghost use Rattle.std.specs.Str.{chars};
 ghost use Rattle.mm_xml.specs.Grammar.{normal, without_mark as mark_dropped};
-ghost use Rattle.mm_xml.specs.Lexemes.{chars_of};
-ghost use Rattle.mm_xml.specs.Builds.{Decodes};
+ghost use Rattle.mm_xml.specs.Inside.Lexemes.{chars_of};
+ghost use Rattle.mm_xml.specs.Inside.Builds.{Decodes};
 
 use crate::letters::are_chars;
 use crate::text::{first, push};

@@ -1,12 +1,14 @@
+//! The document type declaration, which is read over.
+
 ghost use Rattle.std.specs.Prelude.{◌≡◌};
 ghost use Rattle.std.specs.List.{prefix_len};
 ghost use Rattle.std.specs.Str.{chars};
 ghost use Rattle.mm_tree.specs.Characters.{is_char as char_is};
 ghost use Rattle.mm_xml.specs.Letters.{is_gap as gap_is};
 ghost use Rattle.mm_xml.specs.Syntax.{is_public as public_is};
-ghost use Rattle.mm_xml.specs.Lexing.{span, quoted_char, quoted_at, spaced_quoted_at, external_at, doctype_at};
-ghost use Rattle.mm_xml.specs.Telling.{rest_of, both_rest};
-ghost use Rattle.mm_xml.specs.Lexemes.{Rests};
+ghost use Rattle.mm_xml.specs.Inside.Lexing.{span, quoted_char, quoted_at, spaced_quoted_at, external_at, doctype_at};
+ghost use Rattle.mm_xml.specs.Inside.Telling.{rest_of, both_rest};
+ghost use Rattle.mm_xml.specs.Inside.Lexemes.{Rests};
 
 use crate::attribute::{is_name, is_quote};
 use crate::letters::{between, is_blank, is_char, name_span, space_span};
@@ -117,7 +119,7 @@ fn after_both(text: &str) -> Option<&str>
 }
 
 /// What comes after an ExternalID, production 75, where one stands behind white space.
-#[tactic(auto, unfolding(crate::specs::Lexing::external_at))]
+#[tactic(auto, unfolding(crate::specs::Inside::Lexing::external_at))]
 fn after_external(text: &str) -> Option<&str>
     ensures { Rests result (rest_of (external_at (chars text.now))) }
 {
@@ -136,7 +138,7 @@ fn after_external(text: &str) -> Option<&str>
 }
 
 /// What comes after a document type declaration without an internal subset, of which `<!DOCTYPE` is read.
-#[tactic(auto, unfolding(crate::specs::Lexing::doctype_at))]
+#[tactic(auto, unfolding(crate::specs::Inside::Lexing::doctype_at))]
 pub fn after_doctype(text: &str) -> Option<&str>
     ensures { Rests result (rest_of (doctype_at (chars text.now))) }
 {

@@ -1,3 +1,5 @@
+//! Why bytes were not read.
+
 ghost use Rattle.std.specs.Prelude.{◌≡◌};
 
 use std::alloc::{AllocError, AllocFailed};

@@ -1,10 +1,11 @@
 //! Laws of the definitions that the reader is held to. Each function's contract is a law, and its
 //! proof is all that it does. `one_tree` says that the definition leaves no choice, `valid_tree` that
 //! what is spelled can be stored, `reads_back` that what is written spells the node, and the others are
-//! the productions of XML 1.0, fifth edition, as sentences on bytes. What they take in characters has its
-//! line ends turned: no carriage return.
+//! the productions of XML 1.0, fifth edition, as sentences on bytes: from parts to the whole, and, where a
+//! name ends with `_parts`, from the whole to its parts. What the former take in characters has its line
+//! ends turned: no carriage return. The latter take bytes as they are.
 
-ghost use Rattle.std.specs.Prelude.{◌≡◌, ◌<◌, ◌^◌, ◌++◌, ◌∷◌, [], ◌⊎◌, ◌||◌, false, true, ℕ, List, Option, Some, length, map, IsTrue};
+ghost use Rattle.std.specs.Prelude.{◌≡◌, ◌<◌, ◌^◌, ◌++◌, ◌∷◌, [], ◌⊎◌, ◌||◌, false, true, ℕ, Bool, List, Option, Some, length, map, IsTrue};
 ghost use Rattle.std.specs.List.{list_all, flat_map};
 ghost use Rattle.std.specs.Str.{chars, encode_utf8_all};
 ghost use Rattle.mm_tree.specs.declared.Kind.{Kind};
@@ -14,9 +15,10 @@ ghost use Rattle.mm_tree.specs.Trees.{Trees, none, node, Tree, one, every};
 ghost use Rattle.mm_tree.specs.Numbering.{Labelled};
 ghost use Rattle.mm_tree.specs.Validity.{is_valid_node, is_valid_tree};
 ghost use Rattle.mm_xml.specs.Letters.{referred, is_free};
-ghost use Rattle.mm_xml.specs.Syntax.{is_literal, not_semicolon, Written, spelled_written, attribute_of, External, Token, Section, Comment, Instruction, Start, Close, Doctype, is_token, spelled, Declaration};
+ghost use Rattle.mm_xml.specs.Syntax.{is_literal, not_semicolon, Reference, Written, is_written, spelled_written, attribute_of, External, Token, Data, Section, Comment, Instruction, Start, Close, Doctype, is_token, spelled, Declaration};
 ghost use Rattle.mm_xml.specs.Grammar.{spelled_first, Spells};
-ghost use Rattle.mm_xml.specs.Productions.{is_plain, lines, SpellsRun, ends_run, ends_markup, ends_text, SpellsContent, behind_text, SpellsElement, is_misc, SpellsMisc, SpellsProlog, is_first, is_marked, SpellsDocument, SpellsText};
+ghost use Rattle.mm_xml.specs.Productions.{is_plain, with_line_feeds, SpellsRun, ends_run, ends_markup, ends_text, SpellsContent, behind_text, SpellsElement, is_misc, SpellsMisc, SpellsProlog, is_first, is_marked, SpellsDocument, SpellsText};
+ghost use Rattle.mm_xml.specs.Parts.{SpellsCharacters, SpellsToken, DocumentParts, PrologParts, MiscParts, ElementParts, ContentParts, RunParts, TextParts, ReferenceParts, SectionParts, CommentParts, InstructionParts, SpellsAttributes, StartParts, EndParts, MoreAttributes, AttributeParts, TypeParts};
 ghost use Rattle.mm_xml.specs.Writing.{written, without_labels, are_apart, is_marked_text};
 
 /// Bytes spell at most one tree.
@@ -106,7 +108,7 @@ pub fn instruction()
 
 /// Texts behind one another are one text, where no run of CharData goes on from one to the other.
 pub fn joined_text()
-    ensures { (a b text more : List ℕ) → SpellsRun a text → SpellsRun b more → IsTrue (ends_run (chars b) || ends_markup (lines a)) → SpellsRun (a ++ b) (text ++ more) }
+    ensures { (a b text more : List ℕ) → SpellsRun a text → SpellsRun b more → IsTrue (ends_run (chars b) || ends_markup (with_line_feeds a)) → SpellsRun (a ++ b) (text ++ more) }
 {}
 
 /// An element is an EmptyElemTag.
@@ -132,6 +134,87 @@ pub fn text_in_content()
 /// Content may be an element, and then content.
 pub fn element_in_content()
     ensures { (bytes content : List ℕ) (t : Tree Kind) (children : Trees Kind) → SpellsElement bytes t → SpellsContent content children → SpellsContent (bytes ++ content) (node t.0 t.1 children) }
+{}
+
+/// A document is an XMLDecl or nothing, Misc with or without a doctypedecl, an element, and Misc. A byte order
+/// mark may come first.
+pub fn document_parts()
+    ensures { (bytes : List ℕ) (t : Tree Kind) → SpellsDocument bytes t → DocumentParts bytes t }
+{}
+
+/// What stands before an element is Misc, or Misc, a doctypedecl and Misc.
+pub fn prolog_parts()
+    ensures { (bytes : List ℕ) → SpellsProlog bytes → PrologParts bytes }
+{}
+
+/// Misc is nothing, or S, a Comment or a PI, and then Misc.
+pub fn misc_parts()
+    ensures { (bytes : List ℕ) → SpellsMisc bytes → MiscParts bytes }
+{}
+
+/// An element is an EmptyElemTag, or a STag, content and an ETag.
+pub fn element_parts()
+    ensures { (bytes : List ℕ) (t : Tree Kind) → SpellsElement bytes t → ElementParts bytes t }
+{}
+
+/// Content is nothing, or begins with an element or a text and goes on as content.
+pub fn content_parts()
+    ensures { (bytes : List ℕ) (children : Trees Kind) → SpellsContent bytes children → ContentParts bytes children }
+{}
+
+/// A text is nothing, or CharData as far as it goes, a Reference, a CDSect, a Comment or a PI, and then a text.
+pub fn text_parts()
+    ensures { (bytes text : List ℕ) → SpellsRun bytes text → RunParts bytes text }
+{}
+
+/// The text form is a text that isn't blank. A byte order mark may come first.
+pub fn text_form_parts()
+    ensures { (bytes : List ℕ) (t : Tree Kind) → SpellsText bytes t → TextParts bytes t }
+{}
+
+/// A Reference is `&`, a name or a number, and `;`.
+pub fn reference_parts()
+    ensures { (bytes body : List ℕ) → SpellsToken bytes (Data (Reference body)) → ReferenceParts bytes body }
+{}
+
+/// A CDSect is `<![CDATA[`, Chars, and the first `]]>`.
+pub fn section_parts()
+    ensures { (bytes cs : List ℕ) → SpellsToken bytes (Section cs) → SectionParts bytes cs }
+{}
+
+/// A Comment is `<!--`, Chars without `--`, and `-->`.
+pub fn comment_parts()
+    ensures { (bytes cs : List ℕ) → SpellsToken bytes (Comment cs) → CommentParts bytes cs }
+{}
+
+/// A PI is `<?`, a name but `xml`, what is behind white space, and the first `?>`.
+pub fn instruction_parts()
+    ensures { (bytes name cs : List ℕ) → SpellsToken bytes (Instruction name cs) → InstructionParts bytes name cs }
+{}
+
+/// A STag is `<`, a name, attributes and `>`; an EmptyElemTag ends with `/>`.
+pub fn start_parts()
+    ensures { (bytes name gap : List ℕ) (empty : Bool) (attributes : List Written) → SpellsToken bytes (Start empty name attributes gap) → StartParts bytes empty name attributes gap }
+{}
+
+/// An ETag is `</`, a name and `>`.
+pub fn end_parts()
+    ensures { (bytes name gap : List ℕ) → SpellsToken bytes (Close name gap) → EndParts bytes name gap }
+{}
+
+/// Attributes are the first and the others.
+pub fn attributes_parts()
+    ensures { (bytes : List ℕ) (first : Written) (others : List Written) → SpellsAttributes bytes (first ∷ others) → MoreAttributes bytes first others }
+{}
+
+/// An Attribute is a name, Eq and a value in quotes.
+pub fn attribute_parts()
+    ensures { (bytes : List ℕ) (a : Written) → IsTrue (is_written a) → SpellsCharacters bytes (spelled_written a) → AttributeParts bytes a }
+{}
+
+/// A doctypedecl is `<!DOCTYPE`, a name, an ExternalID or none, and `>`.
+pub fn doctype_parts()
+    ensures { (bytes gap name after : List ℕ) (external : External) → SpellsToken bytes (Doctype gap name external after) → TypeParts bytes gap name external after }
 {}
 
 /// The tree that bytes spell can be stored, if the bytes are fewer than 2^32.

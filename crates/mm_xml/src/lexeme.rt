@@ -1,11 +1,13 @@
+//! Lexemes: tags, character data, references and other markup, each as the reader needs it.
+
 ghost use Rattle.std.specs.Prelude.{◌≡◌, [], ◌∷◌, length, map, IfOk};
 ghost use Rattle.std.specs.Str.{chars};
 ghost use Rattle.mm_xml.specs.Letters.{lower as lower_is};
 ghost use Rattle.mm_xml.specs.Syntax.{is_reserved as reserved_is, is_rest as rest_is, letter_is};
-ghost use Rattle.mm_xml.specs.Lexing.{after as after_at, ending_at, start_at, close_at, comment_at, section_at, instruction_at, marked_at, markup_at, token_at};
-ghost use Rattle.mm_xml.specs.Telling.{tell, sign_at};
-ghost use Rattle.mm_xml.specs.Passages.{passage_at};
-ghost use Rattle.mm_xml.specs.Lexemes.{Finds, Gets, Skips};
+ghost use Rattle.mm_xml.specs.Inside.Lexing.{after as after_at, ending_at, start_at, close_at, comment_at, section_at, instruction_at, marked_at, markup_at, token_at};
+ghost use Rattle.mm_xml.specs.Inside.Telling.{tell, sign_at};
+ghost use Rattle.mm_xml.specs.Inside.Passages.{passage_at};
+ghost use Rattle.mm_xml.specs.Inside.Lexemes.{Finds, Gets, Skips};
 
 use crate::attribute::{are_distinct, attributes_of, is_name, is_short_name, text_of};
 use crate::doctype::after_doctype;
@@ -44,7 +46,7 @@ fn ending_of(text: &str) -> Option<(bool, &str)>
 }
 
 /// A start tag from its name on.
-#[tactic(auto, unfolding(crate::specs::Lexing::start_at))]
+#[tactic(auto, unfolding(crate::specs::Inside::Lexing::start_at))]
 fn start_of(alloc: Global, text: &str) -> Result<Option<(Lexeme<'_>, &str)>, AllocError>
     ensures { IfOk result (λ r. Finds r (tell (start_at (chars text.now)))) }
 {
@@ -67,7 +69,7 @@ fn start_of(alloc: Global, text: &str) -> Result<Option<(Lexeme<'_>, &str)>, All
 }
 
 /// What comes after `</`.
-#[tactic(auto, unfolding(crate::specs::Lexing::close_at))]
+#[tactic(auto, unfolding(crate::specs::Inside::Lexing::close_at))]
 fn close_of(alloc: Global, text: &str) -> Result<Option<(Lexeme<'_>, &str)>, AllocError>
     ensures { IfOk result (λ r. Finds r (tell (close_at (chars text.now)))) }
 {
@@ -83,7 +85,7 @@ fn close_of(alloc: Global, text: &str) -> Result<Option<(Lexeme<'_>, &str)>, All
 }
 
 /// What comes after a comment, of which `<!--` is read.
-#[tactic(auto, unfolding(crate::specs::Lexing::comment_at))]
+#[tactic(auto, unfolding(crate::specs::Inside::Lexing::comment_at))]
 fn comment_of(text: &str) -> Option<&str>
     ensures { Skips result (tell (comment_at (chars text.now))) }
 {
@@ -96,7 +98,7 @@ fn comment_of(text: &str) -> Option<&str>
 }
 
 /// What comes after `<![CDATA[`.
-#[tactic(auto, unfolding(crate::specs::Lexing::section_at))]
+#[tactic(auto, unfolding(crate::specs::Inside::Lexing::section_at))]
 fn section_of(text: &str) -> Option<(Lexeme<'_>, &str)>
     ensures { Finds result (tell (section_at (chars text.now))) }
 {
@@ -145,7 +147,7 @@ fn is_rest(text: &str) -> bool
 }
 
 /// What comes after an instruction, of which `<?` is read.
-#[tactic(auto, unfolding(crate::specs::Lexing::instruction_at))]
+#[tactic(auto, unfolding(crate::specs::Inside::Lexing::instruction_at))]
 fn instruction_of(text: &str) -> Option<&str>
     ensures { Skips result (tell (instruction_at (chars text.now))) }
 {
@@ -158,7 +160,7 @@ fn instruction_of(text: &str) -> Option<&str>
 }
 
 /// What comes after `<!`.
-#[tactic(auto, unfolding(crate::specs::Lexing::marked_at))]
+#[tactic(auto, unfolding(crate::specs::Inside::Lexing::marked_at))]
 fn marked_of(text: &str) -> Option<(Lexeme<'_>, &str)>
     ensures { Finds result (tell (marked_at (chars text.now))) }
 {
@@ -179,7 +181,7 @@ fn marked_of(text: &str) -> Option<(Lexeme<'_>, &str)>
 }
 
 /// What comes after `<`.
-#[tactic(auto, unfolding(crate::specs::Lexing::markup_at))]
+#[tactic(auto, unfolding(crate::specs::Inside::Lexing::markup_at))]
 fn markup_of(alloc: Global, text: &str) -> Result<Option<(Lexeme<'_>, &str)>, AllocError>
     ensures { IfOk result (λ r. Finds r (tell (markup_at (chars text.now)))) }
 {
@@ -196,7 +198,7 @@ fn markup_of(alloc: Global, text: &str) -> Result<Option<(Lexeme<'_>, &str)>, Al
 }
 
 /// The lexeme at the front, and the characters after it.
-#[tactic(auto, unfolding(crate::specs::Lexing::token_at))]
+#[tactic(auto, unfolding(crate::specs::Inside::Lexing::token_at))]
 pub fn next_lexeme(alloc: Global, text: &str) -> Result<Option<(Lexeme<'_>, &str)>, AllocError>
     ensures { IfOk result (λ r. Finds r (sign_at (chars text.now))) }
 {

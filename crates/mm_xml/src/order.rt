@@ -1,8 +1,10 @@
+//! Which lexeme may stand where.
+
 ghost use Rattle.std.specs.Prelude.{◌≡◌, ◌+◌, ◌<◌, ◌≤◌, ◌^◌, false, true, IsTrue};
-ghost use Rattle.mm_xml.specs.Machine.{document as document_order, text as text_order, sign_may, sign_next};
-ghost use Rattle.mm_xml.specs.Builds.{order_of};
+ghost use Rattle.mm_xml.specs.Inside.Machine.{document as document_order, text as text_order, sign_may, sign_next};
+ghost use Rattle.mm_xml.specs.Inside.Builds.{order_of};
 ghost use Rattle.mm_xml.specs.Grammar.{is_inside};
-ghost use Rattle.mm_xml.specs.Lexemes.{sign_of};
+ghost use Rattle.mm_xml.specs.Inside.Lexemes.{sign_of};
 
 use crate::letters::is_space;
 use crate::lexeme::Lexeme;

@@ -1,8 +1,10 @@
+//! Whether a text spells a tree, told from the names of the open elements alone.
+
 ghost use Rattle.std.specs.Prelude.{◌≡◌, ◌≤◌, [], false};
 ghost use Rattle.std.specs.Str.{chars};
-ghost use Rattle.mm_xml.specs.Outlines.{outlined, is_over, outline_begin, outline_end, outline_leaf, outline_text, outline_open, outline_start, outline_finish, outline_step, outline_as};
-ghost use Rattle.mm_xml.specs.Builds.{outline_of, order_of, Moves, Blanks, Outlines};
-ghost use Rattle.mm_xml.specs.Lexemes.{sign_of};
+ghost use Rattle.mm_xml.specs.Inside.Outlines.{outlined, is_over, outline_begin, outline_end, outline_leaf, outline_text, outline_open, outline_start, outline_finish, outline_step, outline_as};
+ghost use Rattle.mm_xml.specs.Inside.Builds.{outline_of, order_of, Moves, Blanks, Outlines};
+ghost use Rattle.mm_xml.specs.Inside.Lexemes.{sign_of};
 
 use crate::error::XmlError;
 use crate::letters::{is_blank, is_space};

@@ -1,12 +1,14 @@
+//! From bytes to a tree: both forms, with and without a declaration.
+
 ghost use Rattle.std.specs.Prelude.{◌≡◌, ◌<◌, ◌≤◌, ◌^◌, length, false, IfOk, IsErrOf, IsTrue};
 ghost use Rattle.std.specs.Str.{chars};
 ghost use Rattle.mm_tree.specs.declared.Kind.{Kind};
 ghost use Rattle.mm_tree.specs.Trees.{Tree, tree_of};
 ghost use Rattle.mm_tree.specs.Validity.{is_valid_tree};
 ghost use Rattle.mm_xml.specs.Grammar.{Spells, normal};
-ghost use Rattle.mm_xml.specs.Machine.{read_as, read_plain, read_all};
-ghost use Rattle.mm_xml.specs.Builds.{order_of, Reads};
-ghost use Rattle.mm_xml.specs.Answers.{IsShallow, IsTooDeep, AnswersFor};
+ghost use Rattle.mm_xml.specs.Inside.Machine.{read_as, read_plain, read_all};
+ghost use Rattle.mm_xml.specs.Inside.Builds.{order_of, Reads};
+ghost use Rattle.mm_xml.specs.Refusals.{IsShallow, IsTooDeep, AnswersFor};
 
 use crate::builder::build;
 use crate::declaration::after_declaration;

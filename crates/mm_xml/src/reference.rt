@@ -1,13 +1,15 @@
+//! Character data and references, each as the character that it stands for.
+
 ghost use Rattle.std.specs.Prelude.{◌≡◌, ◌≤◌, nat_lt};
 ghost use Rattle.std.specs.List.{list_all, prefix_len};
 ghost use Rattle.std.specs.Str.{chars};
-ghost use Rattle.mm_xml.specs.Letters.{referred as referred_by, by_name as by_name_is, by_number as by_number_is, numbered as numbered_is, is_digits as digits_are, digit as digit_is, number as number_is};
+ghost use Rattle.mm_xml.specs.Letters.{referred as referred_by, by_name as by_name_is, by_number as by_number_is, numbered as numbered_is, is_digits as digits_are, digit as digit_is, digits_value as number_is};
 ghost use Rattle.mm_xml.specs.Syntax.{not_semicolon, is_literal as literal_is};
-ghost use Rattle.mm_xml.specs.Lexing.{span, part_at, reference_at};
-ghost use Rattle.mm_xml.specs.Telling.{tell_part};
-ghost use Rattle.mm_xml.specs.Lexemes.{FindsPart};
-ghost use Rattle.mm_xml.specs.Numbers.{capped};
-ghost use Rattle.mm_xml.specs.Passages.{is_ordinary as ordinary_is};
+ghost use Rattle.mm_xml.specs.Inside.Lexing.{span, part_at, reference_at};
+ghost use Rattle.mm_xml.specs.Inside.Telling.{tell_part};
+ghost use Rattle.mm_xml.specs.Inside.Lexemes.{FindsPart};
+ghost use Rattle.mm_xml.specs.Inside.Numbers.{capped};
+ghost use Rattle.mm_xml.specs.Inside.Passages.{is_ordinary as ordinary_is};
 
 use crate::letters::{between, is_char};
 use crate::text::{after, first, is, split_after};
@@ -161,7 +163,7 @@ fn body_span(text: &str) -> (&str, &str)
 }
 
 /// What comes after `&`.
-#[tactic(auto, unfolding(crate::specs::Lexing::reference_at))]
+#[tactic(auto, unfolding(crate::specs::Inside::Lexing::reference_at))]
 fn reference_of(text: &str) -> Option<(Part, &str)>
     ensures { FindsPart result (tell_part (reference_at (chars text.now))) }
 {
@@ -176,7 +178,7 @@ fn reference_of(text: &str) -> Option<(Part, &str)>
 }
 
 /// The part at the front, and the characters after it.
-#[tactic(auto, unfolding(crate::specs::Lexing::part_at))]
+#[tactic(auto, unfolding(crate::specs::Inside::Lexing::part_at))]
 pub fn part_of(text: &str) -> Option<(Part, &str)>
     ensures { FindsPart result (tell_part (part_at (chars text.now))) }
 {

@@ -1,12 +1,14 @@
+//! The elements that are open, and the tree that grows from them.
+
 ghost use Rattle.std.specs.Prelude.{◌≡◌, ◌<◌, ◌≤◌, [], IfOk, IsTrue, not, true, false};
 ghost use Rattle.std.specs.Str.{bytes_eq, chars};
 ghost use Rattle.std.specs.List.{list_all};
 ghost use Rattle.mm_tree.specs.Characters.{is_space as space_is};
 ghost use Rattle.mm_tree.specs.Trees.{tree_of};
-ghost use Rattle.mm_xml.specs.Answers.{most_levels};
-ghost use Rattle.mm_xml.specs.Grammar.{Begin, End, name_of};
-ghost use Rattle.mm_xml.specs.Machine.{place, leaf_at, text_step, open_step, start_step, end_step, finish_step, finished, frame_tree, closed, Before, depth_of};
-ghost use Rattle.mm_xml.specs.Builds.{state_of, frame_of, frames_of, Steps, MovesTo, Places, Ends, Finishes};
+ghost use Rattle.mm_xml.specs.Refusals.{most_levels};
+ghost use Rattle.mm_xml.specs.Grammar.{Begin, End, end_name};
+ghost use Rattle.mm_xml.specs.Inside.Machine.{place, leaf_at, text_step, open_step, start_step, end_step, finish_step, finished, frame_tree, closed, Before, depth_of};
+ghost use Rattle.mm_xml.specs.Inside.Builds.{state_of, frame_of, frames_of, Steps, MovesTo, Places, Ends, Finishes};
 
 use crate::attribute::text_of;
 use crate::error::XmlError;
@@ -49,7 +51,7 @@ fn empty_list(alloc: Global, list: Option<Vec<Plain>>) -> Vec<Plain>
 
 impl Opened {
     fn has_name(&self, name: &[u8]) -> bool
-        ensures { result ≡ bytes_eq name.now (name_of self.now.kind) }
+        ensures { result ≡ bytes_eq name.now (end_name self.now.kind) }
     {
         match &self.kind {
             Kind::Element { name: own, .. } => name == own.as_bytes(),

@@ -1,3 +1,5 @@
+//! What is read, what is refused, and what is written.
+
 ghost use Rattle.std.specs.Prelude.{◌<◌, ◌^◌, length};
 
 use crate::{XmlError, read, write};

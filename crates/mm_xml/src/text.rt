@@ -3,9 +3,9 @@
 ghost use Rattle.std.specs.Prelude.{◌≡◌, ◌<◌, ◌++◌, [], ◌∷◌, ◌==◌, length, take, drop, OnOk, IsTrue};
 ghost use Rattle.std.specs.Str.{chars, bytes_eq};
 ghost use Rattle.mm_xml.specs.Letters.{is_ascii};
-ghost use Rattle.mm_xml.specs.Lexing.{up_to as up_to_spec, after as after_spec};
-ghost use Rattle.mm_xml.specs.Lexemes.{Takes, Splits, Rests, chars_of};
-ghost use Rattle.mm_xml.specs.Prefix.{stripped};
+ghost use Rattle.mm_xml.specs.Inside.Lexing.{up_to as up_to_spec, after as after_spec};
+ghost use Rattle.mm_xml.specs.Inside.Lexemes.{Takes, Splits, Rests, chars_of};
+ghost use Rattle.mm_xml.specs.Inside.Prefix.{stripped};
 
 use std::alloc::AllocError;
 

@@ -1,9 +1,11 @@
+//! From a node to its text, without recursion.
+
 ghost use Rattle.std.specs.Prelude.{◌≡◌, ◌∷◌, ◌++◌, ◌+◌, ◌≤◌, [], IfOk, OnOk};
 ghost use Rattle.std.specs.List.{flat_map};
 ghost use Rattle.mm_tree.specs.Trees.{one};
 ghost use Rattle.mm_tree.specs.Numbering.{node_of};
 ghost use Rattle.mm_xml.specs.Writing.{text_byte, value_byte, written_attribute, tag_front, end_tag, written, without_labels};
-ghost use Rattle.mm_xml.specs.Pending.{written_nodes, written_task, written_tasks, whole, turns_of, turns_of_task, turns_of_trees};
+ghost use Rattle.mm_xml.specs.Inside.Pending.{written_nodes, written_task, written_tasks, whole, turns_of, turns_of_task, turns_of_trees};
 
 use mm_tree::{Attribute, Kind, Node, Text};
 use std::alloc::{AllocError, Global};

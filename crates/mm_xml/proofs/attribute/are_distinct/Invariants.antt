@@ -4,7 +4,7 @@ use Rattle.std.specs.List.{list_any}
 use Rattle.std.specs.Str.{bytes_eq}
 use Rattle.std.specs.Cmp.Lexicographic.{slice_cmp}
 use Rattle.std.specs.BTreeMap.{get_by}
-use Rattle.mm_xml.specs.Distinct.{differ_from}
+use Rattle.mm_xml.specs.Inside.Distinct.{differ_from}
 use Rattle.mm_xml.specs.Syntax.{differ}
 use Rattle.mm_xml.proofs.attribute.are_distinct.Given as goal
 

@@ -1,9 +1,9 @@
 use Rattle.std.proofs.Common.{◌∙◌, ap, List, ℕ, ◌+◌, ◌-◌, length, rules, arith}
 use Rattle.std.specs.Str.{chars}
 use Rattle.std.proofs.lemmas.Str.{chars-nil}
-use Rattle.mm_xml.specs.Lexemes.{chars_of}
-use Rattle.mm_xml.specs.Lexing.{parts_at}
-use Rattle.mm_xml.specs.Telling.{tell_parts}
+use Rattle.mm_xml.specs.Inside.Lexemes.{chars_of}
+use Rattle.mm_xml.specs.Inside.Lexing.{parts_at}
+use Rattle.mm_xml.specs.Inside.Telling.{tell_parts}
 use Rattle.mm_xml.proofs.TextFacts.{few}
 use Rattle.mm_xml.proofs.AttributeFacts.{value_begins, value_ends, value_stops, value_goes_on, is_equal, is_other}
 use Rattle.mm_xml.proofs.attribute.value_to.Goals as goal

@@ -2,9 +2,9 @@ use Rattle.std.proofs.Common.{◌≡◌, ◌-◌, [], length}
 use denote.Text.{Utf8}
 use denote.Shadow.{shadow}
 use Rattle.std.specs.Str.{chars}
-use Rattle.mm_xml.specs.Lexemes.{chars_of}
-use Rattle.mm_xml.specs.Lexing.{parts_at}
-use Rattle.mm_xml.specs.Telling.{tell_parts}
+use Rattle.mm_xml.specs.Inside.Lexemes.{chars_of}
+use Rattle.mm_xml.specs.Inside.Lexing.{parts_at}
+use Rattle.mm_xml.specs.Inside.Telling.{tell_parts}
 use Rattle.mm_xml.proofs.attribute.value_to.Given as goal
 
 -- the characters so far, and those that are read from here on, are those that are read from the start

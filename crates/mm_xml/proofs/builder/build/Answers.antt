@@ -2,9 +2,9 @@ use Rattle.std.proofs.Common.{◌∙◌, ◌+◌, ◌-◌, length, sym, ap, rule
 use Rattle.std.specs.Str.{chars}
 use Rattle.mm_xml.proofs.TextFacts.{few}
 use Rattle.std.proofs.lemmas.Result.{err_from_is_err_and}
-use Rattle.mm_xml.specs.Builds.{state_of, order_of}
-use Rattle.mm_xml.specs.Lexemes.{sign_of, chars_of}
-use Rattle.mm_xml.specs.Passages.{passage_at}
+use Rattle.mm_xml.specs.Inside.Builds.{state_of, order_of}
+use Rattle.mm_xml.specs.Inside.Lexemes.{sign_of, chars_of}
+use Rattle.mm_xml.specs.Inside.Passages.{passage_at}
 use Rattle.mm_xml.proofs.OutlineFacts.{finds_some, finds_none}
 use Rattle.mm_xml.proofs.Passages.{passage_shorter}
 use Rattle.mm_xml.proofs.BuildFacts.{begins, shallow_at_first, goes_on, stops, refused, lost, ends, nothing_left}

@@ -2,10 +2,10 @@ use Rattle.std.proofs.Common.{◌≡◌, ◌+◌, ◌-◌, ◌≤◌, length}
 use denote.Text.{Utf8}
 use denote.Shadow.{shadow}
 use Rattle.std.specs.Str.{chars}
-use Rattle.mm_xml.specs.Answers.{most_levels}
-use Rattle.mm_xml.specs.Lexemes.{chars_of}
-use Rattle.mm_xml.specs.Machine.{read_from, read_as, deepest_of}
-use Rattle.mm_xml.specs.Builds.{state_of, order_of}
+use Rattle.mm_xml.specs.Refusals.{most_levels}
+use Rattle.mm_xml.specs.Inside.Lexemes.{chars_of}
+use Rattle.mm_xml.specs.Inside.Machine.{read_from, read_as, deepest_of}
+use Rattle.mm_xml.specs.Inside.Builds.{state_of, order_of}
 use Rattle.mm_xml.proofs.builder.build.Given as goal
 
 -- what is read from here on is what is read from the start, and no level too many was met

@@ -3,7 +3,7 @@ use denote.Text.{Utf8}
 use denote.Shadow.{shadow}
 use Rattle.std.specs.Str.{chars}
 use Rattle.mm_xml.specs.Grammar.{normal}
-use Rattle.mm_xml.specs.Lexemes.{chars_of}
+use Rattle.mm_xml.specs.Inside.Lexemes.{chars_of}
 use Rattle.mm_xml.proofs.decode.with_line_feeds.Given as goal
 
 -- the characters so far, and what the others become, are what all become

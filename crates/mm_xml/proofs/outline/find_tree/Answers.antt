@@ -1,11 +1,11 @@
 use Rattle.std.proofs.Common.{◌∙◌, ◌+◌, ◌-◌, length, sym, ap, rules, arith}
 use Rattle.std.specs.Str.{chars}
 use Rattle.mm_xml.proofs.TextFacts.{few}
-use Rattle.mm_xml.specs.Builds.{outline_of, order_of}
-use Rattle.mm_xml.specs.Lexemes.{sign_of}
-use Rattle.mm_xml.specs.Passages.{passage_at}
+use Rattle.mm_xml.specs.Inside.Builds.{outline_of, order_of}
+use Rattle.mm_xml.specs.Inside.Lexemes.{sign_of}
+use Rattle.mm_xml.specs.Inside.Passages.{passage_at}
 use Rattle.std.proofs.lemmas.Result.{err_from_is_err_and}
-use Rattle.mm_xml.specs.Outlines.{outline_as}
+use Rattle.mm_xml.specs.Inside.Outlines.{outline_as}
 use Rattle.mm_xml.proofs.OutlineFacts.{begins, finds_some, finds_none}
 use Rattle.mm_xml.proofs.Passages.{passage_shorter}
 use Rattle.mm_xml.proofs.FindFacts.{goes_on, lost, refused, stops}

@@ -2,8 +2,8 @@ use Rattle.std.proofs.Common.{◌≡◌, ◌+◌, ◌-◌, ◌≤◌, length}
 use denote.Text.{Utf8}
 use denote.Shadow.{shadow}
 use Rattle.std.specs.Str.{chars}
-use Rattle.mm_xml.specs.Outlines.{outline_from, outline_as}
-use Rattle.mm_xml.specs.Builds.{outline_of, order_of}
+use Rattle.mm_xml.specs.Inside.Outlines.{outline_from, outline_as}
+use Rattle.mm_xml.specs.Inside.Builds.{outline_of, order_of}
 use Rattle.mm_xml.proofs.outline.find_tree.Given as goal
 
 -- what is found from here on is what is found from the start

@@ -1,6 +1,6 @@
 use Rattle.std.proofs.lemmas.Result.{err_from_is_err_and}
 use Rattle.std.specs.Str.{chars}
-use Rattle.mm_xml.specs.Builds.{order_of}
+use Rattle.mm_xml.specs.Inside.Builds.{order_of}
 use Rattle.mm_xml.proofs.ReaderFacts.{too_deep, no_outline}
 use Rattle.mm_xml.proofs.reader.read_as.Goals as goal
 

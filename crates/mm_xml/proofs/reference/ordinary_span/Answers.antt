@@ -1,6 +1,6 @@
 use Rattle.std.proofs.Common.{◌∙◌, ap, rules}
 use Rattle.std.specs.Str.{chars}
-use Rattle.mm_xml.specs.Passages.{is_ordinary}
+use Rattle.mm_xml.specs.Inside.Passages.{is_ordinary}
 use Rattle.mm_xml.proofs.Spans.{Stops}
 use Rattle.mm_xml.proofs.Ordinary.{one_more, no_more, another, cut_behind, front_is, back_is}
 use Rattle.mm_xml.proofs.reference.ordinary_span.Goals.{in-Some+then-not-is_ordinary, in_default}

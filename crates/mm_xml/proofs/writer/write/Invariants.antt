@@ -2,7 +2,7 @@ use Rattle.std.proofs.Common.{◌≡◌}
 use Rattle.mm_tree.specs.Trees.{one}
 use Rattle.mm_tree.specs.Numbering.{node_of}
 use Rattle.mm_xml.specs.Writing.{written, without_labels}
-use Rattle.mm_xml.specs.Pending.{whole, turns_of}
+use Rattle.mm_xml.specs.Inside.Pending.{whole, turns_of}
 use Rattle.mm_xml.proofs.writer.write.Given as goal
 
 -- what is written in the end stays the same

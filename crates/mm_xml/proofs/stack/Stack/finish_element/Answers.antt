@@ -4,8 +4,8 @@ use Rattle.std.specs.Str.{chars}
 use Rattle.std.proofs.lemmas.Result.{err_from_is_err_and}
 use Rattle.mm_tree.specs.Characters.{is_space}
 use Rattle.mm_xml.specs.Grammar.{End}
-use Rattle.mm_xml.specs.Machine.{text_step, place}
-use Rattle.mm_xml.specs.Builds.{state_of}
+use Rattle.mm_xml.specs.Inside.Machine.{text_step, place}
+use Rattle.mm_xml.specs.Inside.Builds.{state_of}
 use Rattle.mm_xml.proofs.Levels.{text_grows, end_grows, steps_places, moves_places, places_stops, places_then, end_monotone}
 use Rattle.mm_xml.proofs.stack.Stack.finish_element.Goals as goal
 

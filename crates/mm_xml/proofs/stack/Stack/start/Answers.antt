@@ -3,8 +3,8 @@ use Rattle.std.specs.List.{list_all}
 use Rattle.std.specs.Str.{chars}
 use Rattle.std.proofs.lemmas.Result.{err_from_is_err_and}
 use Rattle.mm_tree.specs.Characters.{is_space}
-use Rattle.mm_xml.specs.Machine.{text_step, open_step}
-use Rattle.mm_xml.specs.Builds.{state_of}
+use Rattle.mm_xml.specs.Inside.Machine.{text_step, open_step}
+use Rattle.mm_xml.specs.Inside.Builds.{state_of}
 use Rattle.mm_xml.proofs.Levels.{text_grows, open_grows, steps_places, places_stops, places_then, open_monotone}
 use Rattle.mm_xml.proofs.stack.Stack.start.Goals as goal
 

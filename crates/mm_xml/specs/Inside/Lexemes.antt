@@ -9,8 +9,8 @@ use Rattle.mm_xml.specs.declared.lexeme.Lexeme.TheVariants as lexeme
 use Rattle.mm_xml.specs.declared.reference.Part.{Part}
 use Rattle.mm_xml.specs.declared.reference.Part.TheVariants as part
 use Rattle.mm_tree.specs.declared.Kind.TheVariants.{Element}
-use Rattle.mm_xml.specs.Lexing.{Found}
-use Rattle.mm_xml.specs.Telling.{Sign, Character, Named, Passage, Skipped, Opens, Closes, Doctyped}
+use Rattle.mm_xml.specs.Inside.Lexing.{Found}
+use Rattle.mm_xml.specs.Inside.Telling.{Sign, Character, Named, Passage, Skipped, Opens, Closes, Doctyped}
 
 abbrev pub chars_of : String Global → List ℕ
 chars_of text = chars (string_bytes text)

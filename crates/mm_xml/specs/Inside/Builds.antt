@@ -13,10 +13,10 @@ use Rattle.mm_xml.specs.declared.outline.Outline.{Outline}
 use Rattle.mm_xml.specs.declared.error.XmlError.{XmlError}
 use Rattle.mm_xml.specs.declared.error.XmlError.TheVariants as error
 use Rattle.mm_xml.specs.declared.order.Order.{Order}
-use Rattle.mm_xml.specs.Machine.{Frame, State, Before, Inside, After, depth_of, deepest_of}
-use Rattle.mm_xml.specs.Machine as machine
-use Rattle.mm_xml.specs.Outlines.{Outlined, outlined}
-use Rattle.mm_xml.specs.Answers.{most_levels, IsShallow, IsTooDeep}
+use Rattle.mm_xml.specs.Inside.Machine.{Frame, State, Before, Inside, After, depth_of, deepest_of}
+use Rattle.mm_xml.specs.Inside.Machine as machine
+use Rattle.mm_xml.specs.Inside.Outlines.{Outlined, outlined}
+use Rattle.mm_xml.specs.Refusals.{most_levels, IsShallow, IsTooDeep}
 
 abbrev pub frame_of : Opened → Frame
 frame_of f = record { kind = f.kind; before = map tree_of f.children.items }

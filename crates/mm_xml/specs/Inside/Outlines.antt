@@ -3,10 +3,10 @@ use Rattle.std.specs.Prelude.{ℕ, zero, suc, List, [], ◌∷◌, length, Bool,
 use Rattle.std.specs.List.{list_all}
 use Rattle.std.specs.Str.{bytes_eq}
 use Rattle.mm_tree.specs.Characters.{is_space}
-use Rattle.mm_xml.specs.Grammar.{name_of}
-use Rattle.mm_xml.specs.Lexing.{◌>>=◌}
-use Rattle.mm_xml.specs.Telling.{Sign, Character, Named, Passage, Skipped, Opens, Closes, Doctyped, sign_at}
-use Rattle.mm_xml.specs.Machine.{Order, sign_may, sign_next}
+use Rattle.mm_xml.specs.Grammar.{end_name}
+use Rattle.mm_xml.specs.Inside.Lexing.{◌>>=◌}
+use Rattle.mm_xml.specs.Inside.Telling.{Sign, Character, Named, Passage, Skipped, Opens, Closes, Doctyped, sign_at}
+use Rattle.mm_xml.specs.Inside.Machine.{Order, sign_may, sign_next}
 
 -- the names of the open elements, the innermost first, and whether a node was met
 pub record Outlined : Type 0 where
@@ -52,7 +52,7 @@ outline_step o blank (Character c) = Some (o, blank && is_space c)
 outline_step o blank (Named cs) = Some (o, blank && list_all is_space cs)
 outline_step o blank (Passage cs) = Some (o, blank && list_all is_space cs)
 outline_step o blank Skipped = Some (o, blank)
-outline_step o blank (Opens empty kind) = outline_start o blank empty (name_of kind) >>= outline_cleared
+outline_step o blank (Opens empty kind) = outline_start o blank empty (end_name kind) >>= outline_cleared
 outline_step o blank (Closes name) = outline_finish o blank name >>= outline_cleared
 outline_step o blank Doctyped = Some (o, blank)
 

@@ -3,8 +3,8 @@ use Rattle.std.specs.Prelude.{List, ℕ, Bool, Option, Some, None, if◌then◌e
 use Rattle.mm_tree.specs.Characters.{is_char, is_space}
 use Rattle.mm_xml.specs.Letters.{is_gap, starts}
 use Rattle.mm_xml.specs.Syntax.{is_version, is_encoding, is_standalone, declaration_start, version_word, encoding_word, standalone_word, declaration_end}
-use Rattle.mm_xml.specs.Lexing.{◌>>=◌, Found, span, quoted_at, equals_at}
-use Rattle.mm_xml.specs.Prefix.{stripped}
+use Rattle.mm_xml.specs.Inside.Lexing.{◌>>=◌, Found, span, quoted_at, equals_at}
+use Rattle.mm_xml.specs.Inside.Prefix.{stripped}
 
 -- the text in quotes, and what comes after the quotes
 abbrev pub quoted_text_at : List ℕ → Found (List ℕ)

@@ -5,9 +5,9 @@ use Rattle.mm_tree.specs.declared.Kind.{Kind}
 use Rattle.mm_tree.specs.declared.Kind.TheVariants.{Element}
 use Rattle.mm_tree.specs.declared.Attribute.{Attribute}
 use Rattle.mm_xml.specs.Letters.{referred}
-use Rattle.mm_xml.specs.Syntax.{Part, Literal, Reference, named, meant_in_value, Written, attribute_of, is_public, Token, Data, Section, Comment, Instruction, Start, Close, Doctype}
-use Rattle.mm_xml.specs.Grammar.{Bracket, Begin, End, name_of}
-use Rattle.mm_xml.specs.Lexing.{◌>>=◌, Found, span, equals_at, value_at, spaced_quoted_at, token_at}
+use Rattle.mm_xml.specs.Syntax.{Part, Literal, Reference, if_named, meant_in_value, Written, attribute_of, is_public, Token, Data, Section, Comment, Instruction, Start, Close, Doctype}
+use Rattle.mm_xml.specs.Grammar.{Bracket, Begin, End, end_name}
+use Rattle.mm_xml.specs.Inside.Lexing.{◌>>=◌, Found, span, equals_at, value_at, spaced_quoted_at, token_at}
 use Rattle.mm_tree.specs.Characters.{is_char, is_name_char, is_short_name}
 use Rattle.std.specs.List.{flat_map}
 
@@ -23,7 +23,7 @@ pub data Sign : Type 0 where
 -- a character of its own; what a reference names; the characters of a section; what is read over; the tags; the document type
 abbrev pub told : Token → Sign
 told (Data (Literal c)) = Character c
-told (Data (Reference body)) = Named (named (referred body))
+told (Data (Reference body)) = Named (if_named (referred body))
 told (Section cs) = Passage cs
 told (Comment cs) = Skipped
 told (Instruction name cs) = Skipped
@@ -32,7 +32,7 @@ told (Close name gap) = Closes (encode_utf8_all name)
 told (Doctype gap name ext after) = Doctyped
 
 abbrev pub opens : Bool → Kind → List Bracket
-opens empty kind = Begin kind ∷ (if empty then End (name_of kind) ∷ [] else [])
+opens empty kind = Begin kind ∷ (if empty then End (end_name kind) ∷ [] else [])
 
 abbrev pub tell : Found Token → Found Sign
 tell found = found >>= λ x. Some (told x.0, x.1)

@@ -1,8 +1,8 @@
 -- Characters of data that are read in one passage.
 use Rattle.std.specs.Prelude.{ℕ, List, length, Bool, ◌&&◌, not, ◌==◌, Some, if◌then◌else◌}
 use Rattle.mm_xml.specs.Syntax.{is_literal}
-use Rattle.mm_xml.specs.Lexing.{Found, span}
-use Rattle.mm_xml.specs.Telling.{Sign, Passage, sign_at}
+use Rattle.mm_xml.specs.Inside.Lexing.{Found, span}
+use Rattle.mm_xml.specs.Inside.Telling.{Sign, Passage, sign_at}
 
 -- a character of data that stands for itself, whatever stands before it
 abbrev pub is_ordinary : ℕ → Bool

@@ -7,10 +7,10 @@ use Rattle.mm_tree.specs.declared.Kind.TheVariants.{Words}
 use Rattle.mm_tree.specs.Trees.{none, Tree, siblings, one, levels}
 use Rattle.mm_tree.specs.Characters.{is_space}
 use Rattle.mm_xml.specs.Syntax.{meant, Token, Data, Section, Comment, Instruction, Start, Close, Doctype}
-use Rattle.mm_xml.specs.Grammar.{Bracket, Begin, End, name_of, text_brackets, start_brackets, is_inside}
-use Rattle.mm_xml.specs.Lexing.{◌>>=◌}
-use Rattle.mm_xml.specs.Declaring.{after_declaration}
-use Rattle.mm_xml.specs.Telling.{Sign, Character, Named, Passage, Skipped, Opens, Closes, Doctyped, told, sign_at}
+use Rattle.mm_xml.specs.Grammar.{Bracket, Begin, End, end_name, text_brackets, start_brackets, is_inside}
+use Rattle.mm_xml.specs.Inside.Lexing.{◌>>=◌}
+use Rattle.mm_xml.specs.Inside.Declaring.{after_declaration}
+use Rattle.mm_xml.specs.Inside.Telling.{Sign, Character, Named, Passage, Skipped, Opens, Closes, Doctyped, told, sign_at}
 
 -- an element that is open: its kind, and its children so far
 pub record Frame : Type 0 where
@@ -40,7 +40,7 @@ abbrev pub place : State → Bracket → Option State
 place Before (Begin kind) = Some (Inside (fresh kind) [])
 place Before (End name) = None
 place (Inside f fs) (Begin kind) = Some (Inside (fresh kind) (f ∷ fs))
-place (Inside f fs) (End name) = if bytes_eq name (name_of f.kind) then Some (closed (frame_tree f) fs) else None
+place (Inside f fs) (End name) = if bytes_eq name (end_name f.kind) then Some (closed (frame_tree f) fs) else None
 place (After t) p = None
 
 abbrev pub place_all : State → List Bracket → Option State
