@@ -1,5 +1,5 @@
 -- What is pushed component by component.
-use Rattle.std.proofs.Common.{◌≡◌, ◌≢◌, ℕ, ◌-◌, ◌≤◌, List, ◌∷◌, ◌++◌, length, get_or, take, drop, ℤ, pos, Bool, true, false, cond, int_eq, refl, sym, ap, ap₂, ◌∙◌, append_assoc, Result, Ok, Err, OnOk, Option, IsTrue, subst, ◌<◌, ◌+◌, drop-cons, add-one}
+use Rattle.std.proofs.Common.{◌≡◌, ◌≢◌, ℕ, ◌-◌, ◌≤◌, List, [], ◌∷◌, ◌++◌, length, get_or, take, drop, ℤ, pos, Bool, true, false, cond, int_eq, refl, sym, ap, ap₂, ◌∙◌, append_assoc, Option, IsTrue, subst, ◌<◌, ◌+◌, drop-cons, add-one}
 use Rattle.std.proofs.lemmas.Slice.{first_rest}
 use Rattle.std.proofs.lemmas.Bool.Decides.{Decides-int_eq}
 use Rattle.std.proofs.lemmas.Bool.{and_parts}
@@ -27,7 +27,24 @@ apart_is a b l r ne = by_test (int_eq a b) refl
     by_test true e = absurd (ne ((Decides-int_eq a b).0 e))
     by_test false e = refl
 
-pub pushed_apart : {U E : Type 0} (r : Result U E) (old new : List ℤ) (x : ℤ × Option ℤ) (a b : ℤ) (l m left right : List ℤ) → left ≡ a ∷ l → right ≡ b ∷ m → a ≢ b → one_or_two x ≡ apart a l b m → OnOk r (new ≡ old ++ one_or_two x) → OnOk r (new ≡ old ++ inside left right)
-pushed_apart (Ok u) old new x a b l m left right e f ne g h =
-    h ∙ ap (λ zs. old ++ zs) (g ∙ sym (apart_is a b l m ne) ∙ sym (ap₂ inside e f))
-pushed_apart (Err y) old new x a b l m left right e f ne g h = tt
+-- ---- what is taken between two neighbours, number by number
+
+-- the two differ here
+pub parted : (left right l m old new total : List ℤ) (x : ℤ × Option ℤ) (a b : ℤ) → left ≡ a ∷ l → right ≡ b ∷ m → a ≢ b → one_or_two x ≡ apart a l b m → new ≡ old ++ one_or_two x
+    → old ++ inside left right ≡ total → new ≡ total
+parted left right l m old new total x a b e f ne g h s = h ∙ ap (λ zs. old ++ zs) (g ∙ sym (apart_is a b l m ne) ∙ sym (ap₂ inside e f)) ∙ s
+
+together : (a b : ℤ) (l m : List ℤ) → a ≡ b → inside (a ∷ l) (b ∷ m) ≡ a ∷ inside l m
+together a b l m e = ap (λ t. cond t (a ∷ inside l m) (apart a l b m)) ((Decides-int_eq a b).1 e)
+
+rest_in_range : (cs l : List ℤ) (a : ℤ) → cs ≡ a ∷ l → IsTrue (all_in_range cs) → IsTrue (all_in_range l)
+rest_in_range cs l a e h = (and_parts (is_in_range a) (all_in_range l) (subst (λ zs. IsTrue (all_in_range zs)) e h)).1
+
+-- they go on with one number
+pub shared_on : (left right l m old new total : List ℤ) (a b : ℤ) → left ≡ a ∷ l → right ≡ b ∷ m → a ≡ b → new ≡ old ++ a ∷ []
+    → IsTrue (all_in_range left) × IsTrue (all_in_range right) × (old ++ inside left right ≡ total) → IsTrue (all_in_range l) × IsTrue (all_in_range m) × (new ++ inside l m ≡ total)
+shared_on left right l m old new total a b e f same h s = (
+  rest_in_range left l a e s.0,
+  rest_in_range right m b f s.1,
+  ap (λ zs. zs ++ inside l m) h ∙ append_assoc old (a ∷ []) (inside l m) ∙ ap (λ zs. old ++ zs) (sym (together a b l m same) ∙ sym (ap₂ inside e f)) ∙ s.2,
+)

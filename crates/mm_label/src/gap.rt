@@ -73,34 +73,28 @@ fn push_both(out: &mut Vec<i64>, both: (i64, Option<i64>)) -> Result<(), AllocEr
     Ok(())
 }
 
-fn push_between(out: &mut Vec<i64>, left: &[i64], right: &[i64]) -> Result<(), AllocError>
-    requires l { IsTrue (all_in_range left.now) }
-    requires r { IsTrue (all_in_range right.now) }
-    ensures { OnOk result (out.new.items ≡ out.old.items ++ inside left.now right.now) }
-{
-    match left {
-        [a, l @ ..] => match right {
-            [b, r @ ..] => {
-                if a == b {
-                    out.push(*a)?;
-                    push_between(out, l, r)
-                } else {
-                    push_both(out, apart(*a, l, *b, r))
-                }
-            }
-            _ => push_both(out, (1, None)),
-        },
-        _ => push_both(out, (1, None)),
-    }
-}
-
+/// What stands between the two behind the longest front that they share.
 fn inside(alloc: Global, left: &[i64], right: &[i64]) -> Result<Vec<i64>, AllocError>
     requires l { IsTrue (all_in_range left.now) }
     requires r { IsTrue (all_in_range right.now) }
     ensures { IfOk result (λ v. v.items ≡ inside left.now right.now) }
 {
     let mut out = Vec::new(alloc);
-    push_between(&mut out, left, right)?;
+    let mut left = left;
+    let mut right = right;
+    while let [a, l @ ..] = left {
+        let [b, r @ ..] = right else {
+            break;
+        };
+        if a != b {
+            push_both(&mut out, apart(*a, l, *b, r))?;
+            return Ok(out);
+        }
+        out.push(*a)?;
+        left = l;
+        right = r;
+    }
+    out.push(1)?;
     Ok(out)
 }
 

@@ -1,24 +1,46 @@
 //! Vectors of labels, their texts and their neighbours.
 
-ghost use Rattle.std.specs.Prelude.{IfOk, IfSome};
-ghost use Rattle.mm_label.specs.Label.{IsSegment, IsBefore};
+ghost use Rattle.std.specs.Prelude.{IfOk};
+ghost use Rattle.mm_label.specs.Label.{IsSegment};
 
 use crate::{Label, LabelError, between, child, lca};
-use std::alloc::Global;
+use std::alloc::{AllocError, Global};
 use std::cmp::Ordering;
 use std::process::Abort;
 use std::test::Fail;
 
-/// The text and the bytes are those of one label.
-fn assert_spelled(rt: &impl Abort, alloc: Global, text: &str, bytes: &[u8]) -> Result<(), Fail> {
+/// Whether the label of a text lends these bytes.
+fn lends(alloc: Global, text: &str, bytes: &[u8]) -> Result<bool, LabelError> {
     let label = Label::parse(alloc, text)?;
-    assert!(rt; label.as_bytes() == bytes, "lent bytes of {text}");
-    assert!(rt; label.bytes(alloc)?.as_slice() == bytes, "bytes of {text}");
-    assert!(rt; label.text(alloc)?.as_str() == text, "text of {text}");
-    let again = Label::from_bytes(alloc, bytes)?.ok_or("no label")?;
-    assert!(rt; again == label, "read back {text}");
-    assert!(rt; label.copy(alloc)? == label, "copied {text}");
-    Ok(())
+    Ok(label.as_bytes() == bytes)
+}
+
+/// Whether the label of a text gives these bytes.
+fn gives(alloc: Global, text: &str, bytes: &[u8]) -> Result<bool, LabelError> {
+    let label = Label::parse(alloc, text)?;
+    let given = label.bytes(alloc)?;
+    Ok(given.as_slice() == bytes)
+}
+
+/// Whether the label of some bytes has this text.
+fn reads(alloc: Global, bytes: &[u8], text: &str) -> Result<bool, LabelError> {
+    let found = Label::from_bytes(alloc, bytes)?;
+    Ok(shown(alloc, found)?.as_str() == text)
+}
+
+/// Whether the label of a text is the same once more.
+fn copies(alloc: Global, text: &str) -> Result<bool, LabelError> {
+    let label = Label::parse(alloc, text)?;
+    let again = label.copy(alloc)?;
+    Ok(again == label)
+}
+
+/// The text of a label; nothing where there is none.
+fn shown(alloc: Global, label: Option<Label>) -> Result<String, AllocError> {
+    match label {
+        None => Ok(String::new(alloc)),
+        Some(label) => label.text(alloc),
+    }
 }
 
 #[test]
@@ -41,7 +63,10 @@ fn labels_and_their_bytes(rt: HostRuntime) -> Result<(), Fail> {
         ("-4294975551", &[0x1f, 0x00, 0x00, 0x00, 0x01]),
     ];
     for (text, bytes) in table {
-        assert_spelled(&rt, rt.alloc(), text, bytes)?;
+        assert!(rt; lends(rt.alloc(), text, bytes)?, "lent bytes of {text}");
+        assert!(rt; gives(rt.alloc(), text, bytes)?, "bytes of {text}");
+        assert!(rt; reads(rt.alloc(), bytes, text)?, "read back {text}");
+        assert!(rt; copies(rt.alloc(), text)?, "copied {text}");
     }
     Ok(())
 }
@@ -97,42 +122,52 @@ fn document_order(rt: HostRuntime) -> Result<(), Fail> {
     Ok(())
 }
 
-/// The level of the label of a text, and whether its parent has the other text, which is empty where
-/// there is no parent.
-fn has_parent(alloc: Global, text: &str, parent: &str) -> Result<(u32, bool), LabelError> {
+fn level(alloc: Global, text: &str) -> Result<u32, LabelError> {
     let label = Label::parse(alloc, text)?;
-    let is_found = match label.parent(alloc)? {
-        None => parent.is_empty(),
-        Some(found) => found.text(alloc)?.as_str() == parent,
-    };
-    Ok((label.level(), is_found))
+    Ok(label.level())
 }
 
-/// Whether the lowest common ancestor of the labels of two texts has this text; the empty text where
-/// they have none.
-fn has_common(alloc: Global, left: &str, right: &str, common: &str) -> Result<bool, LabelError> {
+/// The text of a label's parent; nothing where it has none.
+fn parent(alloc: Global, text: &str) -> Result<String, LabelError> {
+    let label = Label::parse(alloc, text)?;
+    let found = label.parent(alloc)?;
+    Ok(shown(alloc, found)?)
+}
+
+/// The text of the lowest common ancestor; nothing where there is none.
+fn common(alloc: Global, left: &str, right: &str) -> Result<String, LabelError> {
     let left = Label::parse(alloc, left)?;
     let right = Label::parse(alloc, right)?;
-    match lca(alloc, &left, &right)? {
-        None => Ok(common.is_empty()),
-        Some(found) => Ok(found.text(alloc)?.as_str() == common),
-    }
+    let found = lca(alloc, &left, &right)?;
+    Ok(shown(alloc, found)?)
 }
 
 #[test]
 fn ancestors(rt: HostRuntime) -> Result<(), Fail> {
-    assert_eq!(rt; has_parent(rt.alloc(), "1", "")?, (1, true));
-    assert_eq!(rt; has_parent(rt.alloc(), "1.2.-1", "1")?, (2, true));
-    assert!(rt; has_common(rt.alloc(), "1.9", "1.2.-1", "1")?);
-    assert!(rt; has_common(rt.alloc(), "1.9", "3.9", "")?);
+    let alloc = rt.alloc();
+    assert_eq!(rt; level(alloc, "1")?, 1);
+    assert_eq!(rt; level(alloc, "1.2.-1")?, 2);
+    assert_eq!(rt; parent(alloc, "1")?.as_str(), "");
+    assert_eq!(rt; parent(alloc, "1.2.-1")?.as_str(), "1");
+    assert_eq!(rt; common(alloc, "1.9", "1.2.-1")?.as_str(), "1");
+    assert_eq!(rt; common(alloc, "1.9", "3.9")?.as_str(), "");
     Ok(())
+}
+
+/// The last segment of the label of a text.
+fn segment(alloc: Global, text: &str) -> Result<Vec<i64>, LabelError>
+    ensures { IfOk result (λ v. IsSegment v.items) }
+{
+    let label = Label::parse(alloc, text)?;
+    Ok(label.segment(alloc)?)
 }
 
 /// The text of the child of one label by the last segment of another.
 fn grafted(alloc: Global, parent: &str, other: &str) -> Result<String, LabelError> {
     let parent = Label::parse(alloc, parent)?;
-    let segment = Label::parse(alloc, other)?.segment(alloc)?;
-    Ok(child(alloc, Some(&parent), segment.as_slice())?.text(alloc)?)
+    let segment = segment(alloc, other)?;
+    let label = child(alloc, Some(&parent), segment.as_slice())?;
+    Ok(label.text(alloc)?)
 }
 
 #[test]
@@ -141,32 +176,51 @@ fn a_child_by_a_segment(rt: HostRuntime) -> Result<(), Fail> {
     Ok(())
 }
 
-/// The segment of the label of level 1 that has this text; none of the empty text.
-fn segment(alloc: Global, text: &str) -> Result<Option<Vec<i64>>, LabelError>
-    ensures { IfOk result (λ found. IfSome found (λ v. IsSegment v.items)) }
+/// The segment between those of two labels of level 1.
+fn inside(alloc: Global, left: &str, right: &str) -> Result<Vec<i64>, LabelError>
+    ensures { IfOk result (λ v. IsSegment v.items) }
 {
-    if text.is_empty() {
-        return Ok(None);
+    let left = segment(alloc, left)?;
+    let right = segment(alloc, right)?;
+    if left.as_slice().cmp(right.as_slice()) != Ordering::Less {
+        return Err(LabelError::NotALabel);
     }
-    let label = Label::parse(alloc, text)?;
-    let segment = label.segment(alloc)?;
-    Ok(Some(segment))
+    between(alloc, Some(left.as_slice()), Some(right.as_slice()))
 }
 
-/// The label of level 1 between two, of which one or both may be missing.
-fn middle(alloc: Global, left: &str, right: &str) -> Result<Label, LabelError> {
-    let made = match (segment(alloc, left)?, segment(alloc, right)?) {
-        (None, None) => between(alloc, None, None)?,
-        (Some(l), None) => between(alloc, Some(l.as_slice()), None)?,
-        (None, Some(r)) => between(alloc, None, Some(r.as_slice()))?,
-        (Some(l), Some(r)) => {
-            if l.as_slice().cmp(r.as_slice()) != Ordering::Less {
-                return Err(LabelError::NotALabel);
-            }
-            between(alloc, Some(l.as_slice()), Some(r.as_slice()))?
-        }
-    };
-    child(alloc, None, made.as_slice())
+/// The segment after that of a label of level 1.
+fn after(alloc: Global, left: &str) -> Result<Vec<i64>, LabelError>
+    ensures { IfOk result (λ v. IsSegment v.items) }
+{
+    let left = segment(alloc, left)?;
+    between(alloc, Some(left.as_slice()), None)
+}
+
+/// The segment before that of a label of level 1.
+fn before(alloc: Global, right: &str) -> Result<Vec<i64>, LabelError>
+    ensures { IfOk result (λ v. IsSegment v.items) }
+{
+    let right = segment(alloc, right)?;
+    between(alloc, None, Some(right.as_slice()))
+}
+
+/// The segment between those of two labels of level 1, of which one or both may be missing.
+fn gap(alloc: Global, left: &str, right: &str) -> Result<Vec<i64>, LabelError>
+    ensures { IfOk result (λ v. IsSegment v.items) }
+{
+    match (left.is_empty(), right.is_empty()) {
+        (true, true) => between(alloc, None, None),
+        (false, true) => after(alloc, left),
+        (true, false) => before(alloc, right),
+        (false, false) => inside(alloc, left, right),
+    }
+}
+
+/// The text of the label of level 1 between two, of which one or both may be missing.
+fn middle(alloc: Global, left: &str, right: &str) -> Result<String, LabelError> {
+    let segment = gap(alloc, left, right)?;
+    let label = child(alloc, None, segment.as_slice())?;
+    Ok(label.text(alloc)?)
 }
 
 #[test]
@@ -186,11 +240,7 @@ fn between_neighbours(rt: HostRuntime) -> Result<(), Fail> {
     ];
     for (left, right, want) in table {
         let made = middle(rt.alloc(), left, right)?;
-        assert_eq!(rt;
-            made.text(rt.alloc())?.as_str(),
-            want,
-            "between {left:?} and {right:?}"
-        );
+        assert_eq!(rt; made.as_str(), want, "between {left:?} and {right:?}");
     }
     let refused = middle(rt.alloc(), "4294975551", "").err();
     assert_eq!(rt; refused, Some(LabelError::OutOfRange { value: 4294975553 }));
@@ -202,68 +252,59 @@ fn between_neighbours(rt: HostRuntime) -> Result<(), Fail> {
     Ok(())
 }
 
-/// The segment between two that are there.
-fn inside(alloc: Global, left: &Vec<i64>, right: &Vec<i64>) -> Result<Vec<i64>, LabelError>
-    requires left { IsSegment left.now.items }
-    requires right { IsSegment right.now.items }
-    requires ordered { IsBefore left.now.items right.now.items }
-    ensures segment { IfOk result (λ v. IsSegment v.items) }
-    ensures above { IfOk result (λ v. IsBefore left.now.items v.items) }
-    ensures below { IfOk result (λ v. IsBefore v.items right.now.items) }
+/// The label below 1 with this segment.
+fn below_one(alloc: Global, segment: &[i64]) -> Result<Label, LabelError>
+    requires { IsSegment segment.now }
 {
-    between(alloc, Some(left.as_slice()), Some(right.as_slice()))
+    let top = Label::parse(alloc, "1")?;
+    child(alloc, Some(&top), segment)
 }
 
-/// The label below the parent has this text and so many bytes.
-fn assert_below(
-    rt: &impl Abort,
+/// Whether the label below 1 by the segment between two has this text and so many bytes.
+fn stands(
     alloc: Global,
-    parent: &Label,
-    segment: &Vec<i64>,
+    left: &str,
+    right: &str,
     text: &str,
     length: usize,
-) -> Result<(), Fail>
-    requires { IsSegment segment.now.items }
-{
-    let label = child(alloc, Some(parent), segment.as_slice())?;
-    assert!(rt; label.text(alloc)?.as_str() == text, "not {text}");
-    assert_eq!(rt; label.as_bytes().len(), length, "bytes of {text}");
-    Ok(())
+) -> Result<bool, LabelError> {
+    let segment = inside(alloc, left, right)?;
+    let label = below_one(alloc, segment.as_slice())?;
+    Ok(label.as_bytes().len() == length && label.text(alloc)?.as_str() == text)
 }
 
-/// Segments of the top labels 1 and 3.
-fn outer(alloc: Global) -> Result<(Vec<i64>, Vec<i64>), LabelError>
-    ensures left { IfOk result (λ pair. IsSegment pair.0.items) }
-    ensures right { IfOk result (λ pair. IsSegment pair.1.items) }
-    ensures ordered { IfOk result (λ pair. IsBefore pair.0.items pair.1.items) }
-{
-    let left = Label::parse(alloc, "1")?.segment(alloc)?;
-    let right = Label::parse(alloc, "3")?.segment(alloc)?;
-    if left.as_slice().cmp(right.as_slice()) == Ordering::Less {
-        Ok((left, right))
-    } else {
-        Err(LabelError::NotALabel)
-    }
+/// The same of two and a text that go on from one caret.
+fn stands_behind(
+    alloc: Global,
+    caret: &str,
+    ends: (&str, &str, &str),
+    length: usize,
+) -> Result<bool, LabelError> {
+    let left = format!(in alloc; "{caret}{}", ends.0)?;
+    let right = format!(in alloc; "{caret}{}", ends.1)?;
+    let text = format!(in alloc; "1.{caret}{}", ends.2)?;
+    stands(alloc, left.as_str(), right.as_str(), text.as_str(), length)
+}
+
+/// Why no label stands below 1 by the segment between two.
+fn refused(alloc: Global, left: &str, right: &str) -> Result<Option<LabelError>, LabelError> {
+    let segment = inside(alloc, left, right)?;
+    Ok(below_one(alloc, segment.as_slice()).err())
 }
 
 /// Below 1, between 1.1 and 1.3, a pair of labels again and again between the two of the pair before.
 #[test]
 fn one_gap_narrowed(rt: HostRuntime) -> Result<(), Fail> {
     let alloc = rt.alloc();
-    let top = Label::parse(alloc, "1")?;
-    let (mut left, mut right) = outer(alloc)?;
-    let mut caret = String::from_str(alloc, "1.")?;
+    let mut caret = String::new(alloc);
     for pair in 0..510 {
+        assert!(rt; stands_behind(alloc, caret.as_str(), ("1", "3", "2.1"), pair + 3)?);
+        assert!(rt; stands_behind(alloc, caret.as_str(), ("2.1", "3", "2.3"), pair + 3)?);
         caret.push_str("2.")?;
-        left = inside(alloc, &left, &right)?;
-        right = inside(alloc, &left, &right)?;
-        let first = format!(in alloc; "{caret}1")?;
-        assert_below(&rt, alloc, &top, &left, first.as_str(), pair + 3)?;
-        let second = format!(in alloc; "{caret}3")?;
-        assert_below(&rt, alloc, &top, &right, second.as_str(), pair + 3)?;
     }
-    left = inside(alloc, &left, &right)?;
-    let refused = child(alloc, Some(&top), left.as_slice()).err();
-    assert_eq!(rt; refused, Some(LabelError::Full { length: 513 }));
+    let left = format!(in alloc; "{caret}1")?;
+    let right = format!(in alloc; "{caret}3")?;
+    let full = refused(alloc, left.as_str(), right.as_str())?;
+    assert_eq!(rt; full, Some(LabelError::Full { length: 513 }));
     Ok(())
 }
