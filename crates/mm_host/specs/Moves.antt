@@ -1,5 +1,5 @@
 -- How bytes go from a source and to a sink. Bytes that a device doesn't tell are None, before a call and after it.
-use Rattle.std.specs.Prelude.{◌≡◌, ℕ, ◌<◌, ◌≤◌, List, length, take, Result, MatchResult}
+use Rattle.std.specs.Prelude.{◌≡◌, ℕ, ◌<◌, List, length, take, Result, MatchResult}
 use Rattle.std.specs.declared.option.Option.{Option}
 use Rattle.std.specs.Io.KnownBytes.{prepend_known, append_known, IsAtEnd}
 
@@ -13,6 +13,6 @@ pub record Writes {E : Type 0} (before after : Option (List ℕ)) (result : Resu
   pub taken : MatchResult result (λ n. after ≡ append_known before (take n piece)) (λ _. after ≡ before)
   pub some_taken : MatchResult result (λ n. 0 < length piece → 0 < n) (λ _. Unit {0})
 
--- The piece was written whole, or a front of it where a write failed.
+-- The piece was written whole, or where a write failed a front of it, which isn't all.
 pub record WritesAll {E : Type 0} (before after : Option (List ℕ)) (result : Result (Unit {0}) E) (piece : List ℕ) : Type 0 where
-  pub all : MatchResult result (λ _. after ≡ append_known before piece) (λ _. (n : ℕ) × (n ≤ length piece) × (after ≡ append_known before (take n piece)))
+  pub all : MatchResult result (λ _. after ≡ append_known before piece) (λ _. (n : ℕ) × (n < length piece) × (after ≡ append_known before (take n piece)))

@@ -27,7 +27,7 @@ pub trait Sink {
         ensures { result ≡ fault_count self.now };
 }
 
-/// Writes a piece whole, or a front of it where the sink fails.
+/// Writes a piece whole. Where the sink fails, a front of it is written that isn't all.
 pub fn write_all<W: Sink>(sink: &mut W, piece: &[u8]) -> Result<(), Failed>
     ensures bytes { WritesAll (W.written sink.old) (W.written sink.new) result piece.now }
     ensures cause { HasCause (W.fault_count sink.old) (W.fault_count sink.new) result }
