@@ -1,3 +1,4 @@
+// The search: candidates are judged from the last to the first.
 ghost use Rattle.std.specs.Prelude.{cond, ◌≡◌, ◌↔◌, ◌+◌, ◌*◌, ◌≤◌, ◌<◌, List, [], ◌∷◌, ◌++◌, IfOk, IfErr, OnOk, IsTrue, length, get_or};
 ghost use Rattle.mm_tree.specs.Trees.{Trees};
 ghost use Rattle.mm_tree.specs.Numbering.{Labelled};

@@ -1,3 +1,4 @@
+// The call that makes a fragment of an answer.
 ghost use Rattle.std.specs.Prelude.{◌≡◌, ◌↔◌, ◌+◌, ◌≤◌, Some, IfOk, IfErr, AllPairs, IsTrue};
 ghost use Rattle.mm_label.specs.Label.{IsBefore};
 ghost use Rattle.mm_tree.specs.Trees.{Tree, Trees};

@@ -1,3 +1,4 @@
+// A list of values that contracts see as a list.
 ghost use Rattle.std.specs.Prelude.{◌≡◌, [], ◌∷◌, ◌++◌, ◌<◌, ◌≤◌, suc, length, reverse, slice_get, slice_set, slice_index_or, insert, remove, ◌↔◌, IsTrue, MatchOption, OnOk, OnErr, OnSome, Some};
 ghost use Rattle.std.specs.Borrow.{sem};
 ghost use Rattle.std.specs.Option.{option_copied};

@@ -1,3 +1,4 @@
+// The trait of keyword lists: for each word the nodes whose own it is, and the look-ups in them.
 ghost use Rattle.std.specs.Prelude.{◌≡◌, ◌↔◌, ◌+◌, ℕ, Bool, IfOk, IfErr, length};
 ghost use Rattle.mm_tree.specs.Trees.{Trees};
 ghost use Rattle.mm_tree.specs.Numbering.{Labelled};

@@ -1,3 +1,4 @@
+// A label with some words of a query.
 ghost use Rattle.std.specs.Prelude.{◌≡◌, IfOk};
 
 use mm_label::Label;

@@ -1,3 +1,4 @@
+// The walk over the shortest list.
 ghost use Rattle.std.specs.Prelude.{◌≡◌, ◌↔◌, ◌+◌, ◌*◌, ◌≤◌, ◌<◌, ℕ, [], IfOk, IfErr, IsTrue, length, get_or};
 ghost use Rattle.mm_tree.specs.Trees.{Trees};
 ghost use Rattle.mm_tree.specs.Numbering.{Labelled};

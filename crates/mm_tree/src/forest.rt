@@ -1,3 +1,4 @@
+// Forests: labelled trees, which loads and edits keep well formed.
 ghost use Rattle.std.specs.Prelude.{◌≡◌, ◌^◌, ◌-◌, ◌≤◌, [], IsTrue, MatchOption, Some, IfOk, IfErr, OnOk, OnErr, None, not, min};
 ghost use Rattle.std.specs.Option.{SomeIff};
 ghost use Rattle.mm_tree.specs.Trees.{levels, nodes, one, tree_of};

@@ -1,3 +1,4 @@
+// A fragment: what is shown of an answer.
 use crate::text::Text;
 use mm_label::Label;
 use mm_list::Items;

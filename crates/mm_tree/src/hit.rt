@@ -1,3 +1,4 @@
+// A hit: the label and the name of an answer.
 ghost use Rattle.std.specs.Prelude.{◌≡◌};
 ghost use Rattle.mm_tree.specs.Hits.{name_of};
 

@@ -1,3 +1,4 @@
+// A node with its label, and with all below it.
 ghost use Rattle.std.specs.Prelude.{◌≡◌, ◌+◌};
 ghost use Rattle.mm_tree.specs.Trees.{tree_of};
 ghost use Rattle.mm_tree.specs.Numbering.{child_label, number, Labels, Numbers};

@@ -1,3 +1,4 @@
+// A tree without labels, as a reader gives it.
 ghost use Rattle.std.specs.Prelude.{◌≡◌, ◌∷◌, []};
 
 use crate::text::Text;

@@ -1,3 +1,4 @@
+// Why a command is refused, with its number and its word.
 ghost use Rattle.std.specs.Prelude.{◌≡◌, Some};
 ghost use Rattle.mm_tree.specs.Refusals.{number_of, word_of};
 

@@ -1,3 +1,4 @@
+// Text in UTF-8; a short one takes no memory of its own.
 ghost use Rattle.std.specs.Prelude.{◌≡◌, [], ◌↔◌, IfOk, IsTrue, length};
 
 use smallvec::SmallVec;

@@ -1,3 +1,4 @@
+// Worked words, names and queries.
 use crate::calls::query;
 use crate::{QueryError, Word, words_of_name, words_of_text};
 use std::alloc::{AllocError, Global};

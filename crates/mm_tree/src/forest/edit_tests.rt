@@ -1,3 +1,4 @@
+// Edits of a small forest, with their answers and refusals.
 ghost use Rattle.std.specs.Prelude.{IfOk, IsTrue, ◌<◌};
 ghost use Rattle.mm_tree.specs.Trees.{tree_of};
 ghost use Rattle.mm_tree.specs.Validity.{is_valid_tree};

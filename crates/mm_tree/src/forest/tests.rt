@@ -1,3 +1,4 @@
+// Loads into a forest, with their answers and refusals.
 ghost use Rattle.std.specs.Prelude.{◌≡◌, ◌+◌, ◌<◌, [], ℕ, IfOk, IsTrue};
 ghost use Rattle.mm_tree.specs.declared.plain.Kind.TheVariants.{Element, Words};
 ghost use Rattle.mm_tree.specs.Trees.{none, node, one, tree_of, trees_of};

@@ -1,3 +1,4 @@
+// The own words of an element and of a text.
 use super::own_words;
 use crate::plain::{Attribute, Kind};
 use crate::text::Text;
