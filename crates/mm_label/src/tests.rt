@@ -35,6 +35,14 @@ fn copies(alloc: Global, text: &str) -> Result<bool, LabelError> {
     Ok(again == label)
 }
 
+/// Whether a text and bytes are those of one label, as each call tells them.
+fn is_spelled(alloc: Global, text: &str, bytes: &[u8]) -> Result<bool, LabelError> {
+    let lent = lends(alloc, text, bytes)?;
+    let given = gives(alloc, text, bytes)?;
+    let read = reads(alloc, bytes, text)?;
+    Ok(lent && given && read && copies(alloc, text)?)
+}
+
 /// The text of a label; nothing where there is none.
 fn shown(alloc: Global, label: Option<Label>) -> Result<String, AllocError> {
     match label {
@@ -63,10 +71,7 @@ fn labels_and_their_bytes(rt: HostRuntime) -> Result<(), Fail> {
         ("-4294975551", &[0x1f, 0x00, 0x00, 0x00, 0x01]),
     ];
     for (text, bytes) in table {
-        assert!(rt; lends(rt.alloc(), text, bytes)?, "lent bytes of {text}");
-        assert!(rt; gives(rt.alloc(), text, bytes)?, "bytes of {text}");
-        assert!(rt; reads(rt.alloc(), bytes, text)?, "read back {text}");
-        assert!(rt; copies(rt.alloc(), text)?, "copied {text}");
+        assert!(rt; is_spelled(rt.alloc(), text, bytes)?, "at {text}");
     }
     Ok(())
 }
