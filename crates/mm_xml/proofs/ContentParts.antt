@@ -15,7 +15,7 @@ use Rattle.mm_xml.specs.Productions.{with_line_feeds, PartBy, characters_of, is_
 use Rattle.mm_xml.specs.Parts.{SpellsToken, ElementParts, TagParts, ContentParts, ElementFirst, TextFirst}
 use Rattle.mm_xml.proofs.Whole.{first}
 use Rattle.mm_xml.proofs.Elements.{Cuts, brackets_append, closes_content, inside_closes, run_brackets}
-use Rattle.mm_xml.proofs.Splits.{part_apart, one_token, no_bytes}
+use Rattle.mm_xml.proofs.Splits.{first_char, part_apart, one_token, no_bytes}
 use Rattle.mm_xml.proofs.Ends.{no_trees, leaf_first, tag_first, one_name, ends_there}
 
 -- ---- the root
@@ -185,23 +185,6 @@ textual (Instruction name cs ∷ ts) h = one_more (Instruction name cs) ts refl 
 textual (Start empty name ws gap ∷ ts) h = record { xs = []; ys = Start empty name ws gap ∷ ts; whole = refl; each = refl; stop = refl }
 textual (Close name gap ∷ ts) h = record { xs = []; ys = Close name gap ∷ ts; whole = refl; each = refl; stop = refl }
 textual (Doctype gap name ext after ∷ ts) h = absurd cc
-
--- the first character is this one, where it is once line ends are turned
-pub first_char : (b : ℕ) (cs r : List ℕ) → eqb b 10 ≡ false → normal false cs ≡ b ∷ r → (more : List ℕ) × (cs ≡ b ∷ more) × (normal false more ≡ r)
-first_char b [] r h e = absurd cc
-first_char b (c ∷ cs) r h e = elim (eqb c 13) as (λ m. cond m (10 ∷ normal true cs) (c ∷ normal false cs) ≡ b ∷ r → (more : List ℕ) × (c ∷ cs ≡ b ∷ more) × (normal false more ≡ r)) [
-  | true ↦ λ k. absurd (feed b h (heads 10 b _ _ k))
-  | false ↦ λ k. (cs, ap (λ n. n ∷ cs) (heads c b _ _ k), tails c b _ _ k)
-] e
-  where
-    heads : (a b : ℕ) (x y : List ℕ) → a ∷ x ≡ b ∷ y → a ≡ b
-    heads a b x y e = cc
-
-    tails : (a b : ℕ) (x y : List ℕ) → a ∷ x ≡ b ∷ y → x ≡ y
-    tails a b x y e = cc
-
-    feed : (b : ℕ) → eqb b 10 ≡ false → 10 ≡ b → ⊥
-    feed b h e = let k : eqb 10 10 ≡ false = ap (λ n. eqb n 10) e ∙ h in cc
 
 -- a tag stands there
 tag_there : (cs r : List ℕ) (d : ℕ) → normal false cs ≡ 60 ∷ d ∷ r → eqb d 33 ≡ false → eqb d 63 ≡ false → ends_text cs ≡ true

@@ -13,6 +13,8 @@ use Rattle.mm_xml.specs.Syntax.{Literal, Reference, is_literal, meant, Written, 
 use Rattle.mm_xml.specs.Grammar.{Bracket, Begin, End, end_name, text_brackets, start_brackets, brackets, bracketing, is_inside, is_textual, normal}
 use Rattle.mm_xml.specs.Productions.{is_plain, PartBy, characters_of, SpellsRun, ends_text, is_content, SpellsContent, behind_text, is_end, fewer, closes, SpellsElement}
 use Rattle.mm_xml.proofs.Whole.{first}
+use Rattle.mm_xml.specs.Parts.{SpellsToken}
+use Rattle.mm_xml.proofs.Splits.{first_char, token_part}
 use Rattle.mm_xml.proofs.Joins.{plain_same, no_part, all_append, join_behind, join_markup, join_nothing, BeginsMarkup, part_of_one, start_plain, close_plain, start_ends, closed}
 
 -- ---- brackets of tokens behind others
@@ -114,33 +116,22 @@ inside_closes (Doctype g own ext after ∷ ys) run name gap n c h = absurd cc
 
 -- ---- elements
 
-pub empty_element : (name gap : List ℕ) (attributes : List Written) → IsTrue (is_token (Start true name attributes gap)) → IsTrue (list_all is_plain (flat_map spelled_written attributes ++ gap))
-    → SpellsElement (encode_utf8_all (spelled (Start true name attributes gap))) (Element (encode_utf8_all name) (map attribute_of attributes), none)
-empty_element name gap ws is plain =
-    let n = (and_parts (is_short_name name) _ is).0 in
-    (Start true name ws gap ∷ [], part_of_one (Start true name ws gap) is (start_plain true name gap ws n plain) refl, refl, refl)
+pub empty_element : (bytes name gap : List ℕ) (attributes : List Written) → SpellsToken bytes (Start true name attributes gap) → SpellsElement bytes (Element (encode_utf8_all name) (map attribute_of attributes), none)
+empty_element bytes name gap ws s = (Start true name ws gap ∷ [], token_part bytes (Start true name ws gap) s refl, refl, refl)
 
--- an end tag begins with `<`
-encoded_tag : (cs : List ℕ) → chars (encode_utf8_all (60 ∷ cs)) ≡ 60 ∷ cs → BeginsMarkup (chars (encode_utf8_all (60 ∷ cs)))
-encoded_tag cs e = (60, cs, e, inl refl)
-
-pub element : (name gap close_gap content : List ℕ) (attributes : List Written) (children : Trees Kind) → IsTrue (is_token (Start false name attributes gap)) → IsTrue (list_all is_plain (flat_map spelled_written attributes ++ gap))
-    → IsTrue (list_all is_space close_gap) → IsTrue (list_all is_plain close_gap) → SpellsContent content children
-    → SpellsElement (encode_utf8_all (spelled (Start false name attributes gap)) ++ (content ++ encode_utf8_all (spelled (Close name close_gap)))) (Element (encode_utf8_all name) (map attribute_of attributes), children)
-element name gap close_gap content ws children is plain spaces plain_gap c =
-    let n = (and_parts (is_short_name name) _ is).0 in
+pub element : (opening content closing name gap close_gap : List ℕ) (attributes : List Written) (children : Trees Kind) → SpellsToken opening (Start false name attributes gap) → SpellsContent content children → SpellsToken closing (Close name close_gap)
+    → SpellsElement (opening ++ (content ++ closing)) (Element (encode_utf8_all name) (map attribute_of attributes), children)
+element opening content closing name gap close_gap ws children s c e =
     let ys = c.0 in
-    let opening = Start false name ws gap in
-    let closing = Close name close_gap in
-    let tag = close_plain name close_gap n plain_gap in
-    let first = part_of_one opening is (start_plain false name gap ws n plain) refl in
-    let last = part_of_one closing (and_from _ _ n spaces) tag refl in
-    let inner = join_markup content (encode_utf8_all (spelled closing)) ys (closing ∷ []) c.1 last (encoded_tag _ (plain_same (spelled closing) tag)) in
+    let open_tag = Start false name ws gap in
+    let close_tag = Close name close_gap in
+    let tag = first_char 60 (chars closing) _ refl e.characters.spelled_so in
+    let inner = join_markup content closing ys (close_tag ∷ []) c.1 (token_part closing close_tag e refl) (60, tag.0, tag.1, inl refl) in
     let kind = Element (encode_utf8_all name) (map attribute_of ws) in (
-      opening ∷ (ys ++ closing ∷ []),
-      join_behind (encode_utf8_all (spelled opening)) (content ++ encode_utf8_all (spelled closing)) (opening ∷ []) (ys ++ closing ∷ []) first inner (start_ends false name gap ws) refl,
+      open_tag ∷ (ys ++ close_tag ∷ []),
+      join_behind opening (content ++ closing) (open_tag ∷ []) (ys ++ close_tag ∷ []) (token_part opening open_tag s refl) inner (start_ends false name gap ws) refl,
       inside_closes ys [] name close_gap 0 c.2 (ap (λ (qs : List Bracket). down 0 qs) (c.3 ∙ sym (append-nil (bracketing children))) ∙ down_trees children 0 []),
-      ap (λ (ps : List Bracket). Begin kind ∷ ps) (brackets_append ys [] (closing ∷ []) (λ run. refl) ∙ ap (λ (ps : List Bracket). ps ++ End (encode_utf8_all name) ∷ []) c.3),
+      ap (λ (ps : List Bracket). Begin kind ∷ ps) (brackets_append ys [] (close_tag ∷ []) (λ run. refl) ∙ ap (λ (ps : List Bracket). ps ++ End (encode_utf8_all name) ∷ []) c.3),
     )
 
 -- ---- content

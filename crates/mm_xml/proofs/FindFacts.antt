@@ -8,13 +8,14 @@ use Rattle.mm_xml.specs.declared.error.XmlError.TheVariants as error
 use Rattle.std.specs.Prelude.{Err}
 use Rattle.std.proofs.lemmas.Bool.{and_parts}
 use Rattle.mm_xml.specs.Grammar.{is_inside}
-use Rattle.mm_xml.specs.Inside.Lexing.{Found, span}
+use Rattle.mm_xml.specs.Inside.Lexing.{◌>>=◌, Found, span}
 use Rattle.mm_xml.specs.Inside.Telling.{Sign, Character, Passage, sign_at}
-use Rattle.mm_xml.specs.Inside.Passages.{is_ordinary, passage_at}
+use Rattle.mm_xml.specs.Inside.Passages.{is_ordinary, passage_at, allowed_at}
 use Rattle.mm_xml.specs.Inside.Machine.{Order, cut, sign_may, sign_next}
 use Rattle.mm_xml.specs.Inside.Outlines.{Outlined, outline_step, outline_ends, outline_text, holds, outline_from}
-use Rattle.mm_xml.specs.Inside.Builds.{Blanks, Outlines}
-use Rattle.mm_xml.proofs.Spans.{some, span_all, span_whole}
+use Rattle.mm_xml.specs.Inside.Builds.{Follows, Blanks, Outlines}
+use Rattle.mm_xml.proofs.Spans.{some, no, span_all, span_whole}
+use Rattle.mm_xml.proofs.OrderFacts.{Left}
 use Rattle.mm_xml.proofs.OutlineFacts.{on_outline}
 use Rattle.mm_xml.proofs.Passages.{ordinary_sign, ordinary_may, ordinary_next, sign_shorter}
 
@@ -94,44 +95,43 @@ passage_is m o blank order c cs enough =
 
 -- ---- the loop
 
--- what is left, with room for it: b says whether there is nothing
-pub record Left (k m : ℕ) (b : Bool) (rest : List ℕ) : Type 0 where
-  pub few : length rest ≤ k
-  pub count : k ≡ suc m
-  pub is : b ≡ eqb (length rest) 0
-  pub filled : b ≡ false
-
-ahead : (k m : ℕ) (o : Outlined) (blank b : Bool) (order : Order) (rest : List ℕ) → Left k m b rest → outline_from k o blank order rest ≡ holds (passage_at (is_inside order.depth) rest) (λ x. on_outline m o blank order x)
+ahead : (k m : ℕ) (o : Outlined) (blank b : Bool) (order : Order) (rest : List ℕ) → Left k m b rest
+    → outline_from k o blank order rest ≡ holds (allowed_at order rest) (λ x. holds (outline_step o blank x.0) (λ y. outline_from m y.0 y.1 (sign_next order x.0) x.1))
 ahead k m o blank b order [] left = let both_ways : true ≡ false = sym left.is ∙ left.filled in absurd cc
-ahead k m o blank b order (c ∷ cs) left = ap (λ (n : ℕ). outline_from n o blank order (c ∷ cs)) left.count ∙ passage_is m o blank order c cs (omega (arith, left.few, left.count))
+ahead k m o blank b order (c ∷ cs) left =
+    ap (λ (n : ℕ). outline_from n o blank order (c ∷ cs)) left.count
+    ∙ passage_is m o blank order c cs (omega (arith, left.few, left.count))
+    ∙ held (passage_at (is_inside order.depth) (c ∷ cs))
+  where
+    one : (x : Sign × List ℕ) (t : Bool) → (t && holds (outline_step o blank x.0) (λ y. outline_from m y.0 y.1 (sign_next order x.0) x.1)) ≡ holds (cond t (some x) no) (λ x. holds (outline_step o blank x.0) (λ y. outline_from m y.0 y.1 (sign_next order x.0) x.1))
+    one x true = refl
+    one x false = refl
 
--- where nothing stands
-pub lost : (k m : ℕ) (o : Outlined) (blank b : Bool) (order : Order) (rest : List ℕ) (total : Bool) → Left k m b rest → passage_at (is_inside order.depth) rest ≡ None → outline_from k o blank order rest ≡ total → total ≡ false
-lost k m o blank b order rest total left found same = sym same ∙ ahead k m o blank b order rest left ∙ ap (λ (x : Found Sign). holds x (λ x. on_outline m o blank order x)) found
+    held : (found : Found Sign) → holds found (λ x. on_outline m o blank order x) ≡ holds (found >>= λ x. cond (sign_may order x.0) (some x) no) (λ x. holds (outline_step o blank x.0) (λ y. outline_from m y.0 y.1 (sign_next order x.0) x.1))
+    held None = refl
+    held (Some x) = one x (sign_may order x.0)
 
-accepted : (k m : ℕ) (o : Outlined) (blank b may t : Bool) (order : Order) (rest behind : List ℕ) (sign : Sign) → Left k m b rest → passage_at (is_inside order.depth) rest ≡ Some (sign, behind) → may ≡ sign_may order sign → may ≡ t
-    → outline_from k o blank order rest ≡ (t && holds (outline_step o blank sign) (λ y. outline_from m y.0 y.1 (sign_next order sign) behind))
-accepted k m o blank b may t order rest behind sign left found is h =
-    ahead k m o blank b order rest left
-    ∙ ap (λ (x : Found Sign). holds x (λ x. on_outline m o blank order x)) found
-    ∙ ap (λ t. t && holds (outline_step o blank sign) (λ y. outline_from m y.0 y.1 (sign_next order sign) behind)) (sym is ∙ h)
+-- where nothing stands that may, or memory ran out
+pub lost : (e : XmlError) (k m : ℕ) (o : Outlined) (blank b : Bool) (order order' : Order) (rest : List ℕ) (total : Bool) → Left k m b rest → Follows (Err e) order order' rest → outline_from k o blank order rest ≡ total → Outlines {U = Unit {0}} (Err e) total
+lost error.NotXml k m o blank b order order' rest total left h same = sym same ∙ ahead k m o blank b order rest left ∙ ap (λ (x : Found Sign). holds x (λ x. holds (outline_step o blank x.0) (λ y. outline_from m y.0 y.1 (sign_next order x.0) x.1))) h
+lost error.TooDeep k m o blank b order order' rest total left h same = h
+lost error.Memory k m o blank b order order' rest total left h same = tt
 
--- what may not stand there
-pub refused : (k m : ℕ) (o : Outlined) (blank b may : Bool) (order : Order) (rest behind : List ℕ) (sign : Sign) (total : Bool) → Left k m b rest → passage_at (is_inside order.depth) rest ≡ Some (sign, behind) → may ≡ sign_may order sign → may ≡ false
-    → outline_from k o blank order rest ≡ total → total ≡ false
-refused k m o blank b may order rest behind sign total left found is h same = sym same ∙ accepted k m o blank b may false order rest behind sign left found is h
+accepted : (k m : ℕ) (o : Outlined) (blank b : Bool) (order : Order) (rest behind : List ℕ) (sign : Sign) → Left k m b rest → allowed_at order rest ≡ Some (sign, behind)
+    → outline_from k o blank order rest ≡ holds (outline_step o blank sign) (λ y. outline_from m y.0 y.1 (sign_next order sign) behind)
+accepted k m o blank b order rest behind sign left is = ahead k m o blank b order rest left ∙ ap (λ (x : Found Sign). holds x (λ x. holds (outline_step o blank x.0) (λ y. outline_from m y.0 y.1 (sign_next order x.0) x.1))) is
 
 -- a lexeme that leads nowhere
-pub stops : (e : XmlError) (k m : ℕ) (o o' : Outlined) (blank b may : Bool) (order : Order) (rest behind : List ℕ) (sign : Sign) (total : Bool) → Left k m b rest → passage_at (is_inside order.depth) rest ≡ Some (sign, behind) → may ≡ sign_may order sign → may ≡ true
+pub stops : (e : XmlError) (k m : ℕ) (o o' : Outlined) (blank b : Bool) (order : Order) (rest behind : List ℕ) (sign : Sign) (total : Bool) → Left k m b rest → allowed_at order rest ≡ Some (sign, behind)
     → outline_from k o blank order rest ≡ total → Blanks (Err e) o' (outline_step o blank sign) → Outlines {U = Unit {0}} (Err e) total
-stops error.NotXml k m o o' blank b may order rest behind sign total left found is h same none =
-    sym same ∙ accepted k m o blank b may true order rest behind sign left found is h ∙ ap (λ (x : Option (Outlined × Bool)). holds x (λ y. outline_from m y.0 y.1 (sign_next order sign) behind)) none
-stops error.TooDeep k m o o' blank b may order rest behind sign total left found is h same none = none
-stops error.Memory k m o o' blank b may order rest behind sign total left found is h same none = tt
+stops error.NotXml k m o o' blank b order rest behind sign total left is same none =
+    sym same ∙ accepted k m o blank b order rest behind sign left is ∙ ap (λ (x : Option (Outlined × Bool)). holds x (λ y. outline_from m y.0 y.1 (sign_next order sign) behind)) none
+stops error.TooDeep k m o o' blank b order rest behind sign total left is same none = none
+stops error.Memory k m o o' blank b order rest behind sign total left is same none = tt
 
 -- one lexeme further, the same is found
-pub goes_on : (k m : ℕ) (o o' : Outlined) (blank blank' b may : Bool) (order order' : Order) (rest behind : List ℕ) (sign : Sign) → Left k m b rest → passage_at (is_inside order.depth) rest ≡ Some (sign, behind) → may ≡ sign_may order sign → may ≡ true
+pub goes_on : (k m : ℕ) (o o' : Outlined) (blank blank' b : Bool) (order order' : Order) (rest behind : List ℕ) (sign : Sign) → Left k m b rest → allowed_at order rest ≡ Some (sign, behind)
     → order' ≡ sign_next order sign → outline_step o blank sign ≡ Some (o', blank') → outline_from m o' blank' order' behind ≡ outline_from k o blank order rest
-goes_on k m o o' blank blank' b may order order' rest behind sign left found is h next moved =
+goes_on k m o o' blank blank' b order order' rest behind sign left is next moved =
     ap (λ (x : Order). outline_from m o' blank' x behind) next
-    ∙ sym (accepted k m o blank b may true order rest behind sign left found is h ∙ ap (λ (x : Option (Outlined × Bool)). holds x (λ y. outline_from m y.0 y.1 (sign_next order sign) behind)) moved)
+    ∙ sym (accepted k m o blank b order rest behind sign left is ∙ ap (λ (x : Option (Outlined × Bool)). holds x (λ y. outline_from m y.0 y.1 (sign_next order sign) behind)) moved)

@@ -37,3 +37,4 @@ pub mod ContentParts
 pub mod DocumentParts
 pub mod RunParts
 pub mod TokenParts
+pub mod OrderFacts

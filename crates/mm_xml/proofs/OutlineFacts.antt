@@ -13,10 +13,7 @@ use Rattle.mm_xml.specs.Inside.Lexing.{◌>>=◌, Found}
 use Rattle.mm_xml.specs.Inside.Telling.{Sign, Character, Named, Passage, Skipped, Opens, Closes, Doctyped, sign_at}
 use Rattle.mm_xml.specs.Inside.Machine.{Frame, State, Before, Inside, After, with_child, frame_tree, place, finished, cleared, leaf_at, text_step, open_step, start_step, end_step, finish_step, sign_step, Order, sign_may, sign_next, read_from, read_as}
 use Rattle.mm_xml.specs.Inside.Outlines.{Outlined, outlined, is_over, outline_begin, outline_end, outline_leaf, outline_text, outline_open, outline_start, outline_finish, outline_cleared, outline_step, outline_ends, holds, outline_from, outline_as}
-use Rattle.std.specs.Borrow.{Bor}
-use Rattle.mm_xml.specs.declared.lexeme.Lexeme.{Lexeme}
-use Rattle.mm_xml.specs.Inside.Lexemes.{sign_of, Finds}
-use Rattle.mm_xml.proofs.Spans.{some, some_is}
+use Rattle.mm_xml.proofs.Spans.{some}
 use Rattle.mm_xml.proofs.Enough.{read_enough}
 
 abbrev names_of : List Frame → List (List ℕ)
@@ -141,11 +138,3 @@ unfolding outline_as
 begins k o order cs enough e =
     ap (λ (x : Outlined). outline_from k x true order cs) e
     ∙ found_is k Before [] order cs ∙ ap (λ (t : Option (Tree Kind)). is_some t) (read_enough k (length cs) Before [] order cs enough (omega arith)) ∙ sym (found_is (length cs) Before [] order cs)
-
-pub finds_some : (r : Option (Lexeme × Bor (List ℕ))) (lexeme : Lexeme) (rest : Bor (List ℕ)) (found : Found Sign) → r ≡ Some (lexeme, rest) → Finds r found → found ≡ Some (sign_of lexeme, chars rest.now)
-finds_some None lexeme rest found e h = absurd cc
-finds_some (Some x) lexeme rest found e h = h ∙ ap (λ (y : Lexeme × Bor (List ℕ)). some (sign_of y.0, chars y.1.now)) (some_is x (lexeme, rest) e)
-
-pub finds_none : (r : Option (Lexeme × Bor (List ℕ))) (found : Found Sign) → r ≡ None → Finds r found → found ≡ None
-finds_none None found e h = h
-finds_none (Some x) found e h = absurd cc

@@ -67,11 +67,6 @@ passage_read (x ∷ xs) rest m s run order each filled inside enough =
     ∙ ap (λ (r : List ℕ). read_from m s r (cut order) rest) (append_assoc run (x ∷ []) xs)
     ∙ ap (λ b. cond b (read_from m s (run ++ x ∷ xs) (cut order) rest) no) (sym inside)
 
-pub nothing_there : (inside : Bool) → passage_at inside [] ≡ None
-unfolding token_at
-nothing_there true = refl
-nothing_there false = refl
-
 -- a passage further, the same is read as a character further
 pub passage_is : (m : ℕ) (s : State) (run : List ℕ) (order : Order) (c : ℕ) (cs : List ℕ) → length (c ∷ cs) ≤ suc m
     → read_from (suc m) s run order (c ∷ cs) ≡ (passage_at (is_inside order.depth) (c ∷ cs) >>= λ x. on_state m s run order x)

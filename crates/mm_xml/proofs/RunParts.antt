@@ -15,9 +15,9 @@ use Rattle.mm_xml.specs.Parts.{is_markup, MoreText, RunParts, TextParts}
 use Rattle.mm_xml.proofs.Elements.{run_brackets}
 use Rattle.mm_xml.proofs.Forms.{nothing_there}
 use Rattle.mm_xml.proofs.Runs.{literals, literals_spelled, literals_text, close_mark, text_append}
-use Rattle.mm_xml.proofs.Splits.{part_apart, one_token, no_bytes, unbroken_less}
+use Rattle.mm_xml.proofs.Splits.{first_char, part_apart, one_token, no_bytes, unbroken_less}
 use Rattle.mm_xml.proofs.Ends.{leaf_first}
-use Rattle.mm_xml.proofs.ContentParts.{root, some_bytes, first_char, all_behind}
+use Rattle.mm_xml.proofs.ContentParts.{root, some_bytes, all_behind}
 use Rattle.mm_xml.proofs.DocumentParts.{mark_apart}
 
 -- ---- character data

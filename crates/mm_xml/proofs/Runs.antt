@@ -11,6 +11,8 @@ use Rattle.mm_xml.specs.Syntax.{Literal, Reference, is_literal, not_semicolon, i
 use Rattle.mm_xml.specs.Grammar.{unbroken, is_textual, normal}
 use Rattle.mm_xml.specs.Productions.{is_plain, with_line_feeds, PartBy, characters_of, SpellsRun, ends_run, ends_markup}
 use Rattle.mm_xml.proofs.Attributes.{name_chars}
+use Rattle.mm_xml.specs.Parts.{SpellsCharData, is_markup, SpellsMarkup}
+use Rattle.mm_xml.proofs.Splits.{token_part}
 use Rattle.mm_xml.proofs.Joins.{all_append, part_join, join_markup, join_nothing, part_of, part_of_one, no_part, plain_append, name_plain, no_return, last_or, last_append, squares}
 
 -- ---- nothing
@@ -84,30 +86,35 @@ literals_whole n (c ∷ cs) h = elim (eqb c 93) as (λ b. eqb c 93 ≡ b → con
   | false ↦ λ e. and_from _ _ (not_closed n c cs h) (literals_whole 0 cs (and_parts _ (is_free close_mark cs) (free_tail n (c ∷ cs) h)).1)
 ] refl
 
-pub char_data : (text : List ℕ) → IsTrue (list_all is_plain text) → IsTrue (list_all is_literal text) → IsTrue (is_free (93 ∷ 93 ∷ 62 ∷ []) text) → SpellsRun (encode_utf8_all text) text
-char_data text plain each free =
-    let ts = literals text in
-    let part = part_of ts (literals_each text each) (ap (λ (x : List ℕ). list_all is_plain x) (literals_spelled text) ∙ plain) (literals_whole 0 text free) in
-    (ts, subst (λ (x : List ℕ). PartBy (encode_utf8_all x) ts) (literals_spelled text) part, literals_textual text, literals_text text)
+pub char_data : (bytes text : List ℕ) → SpellsCharData bytes text → SpellsRun bytes text
+char_data bytes text s = (
+  literals text,
+  record {
+    encoded = s.characters.encoded;
+    each = literals_each text s.each;
+    spelled_so = s.characters.spelled_so ∙ sym (literals_spelled text);
+    whole = literals_whole 0 text s.free;
+  },
+  literals_textual text,
+  literals_text text,
+)
 
 -- ---- markup
 
-pub reference : (body : List ℕ) (c : ℕ) → IsTrue (list_all is_plain body) → IsTrue (list_all not_semicolon body) → referred body ≡ Some c → SpellsRun (encode_utf8_all (38 ∷ (body ++ 59 ∷ []))) (c ∷ [])
-reference body c plain free e = (
-  Data (Reference body) ∷ [],
-  part_of_one (Data (Reference body)) (and_from _ _ free (ap is_some e)) (plain_append body (59 ∷ []) plain refl) refl,
-  refl,
-  ap (λ o. if_named o ++ []) e,
-)
+markup_textual : (t : Token) → is_markup t ≡ true → (is_textual t ≡ true) × (unbroken 0 (t ∷ []) ≡ true)
+markup_textual (Data (Literal c)) h = absurd cc
+markup_textual (Data (Reference body)) h = (refl, refl)
+markup_textual (Section cs) h = (refl, refl)
+markup_textual (Comment cs) h = (refl, refl)
+markup_textual (Instruction name cs) h = (refl, refl)
+markup_textual (Start empty name ws gap) h = absurd cc
+markup_textual (Close name gap) h = absurd cc
+markup_textual (Doctype gap name ext after) h = absurd cc
 
-pub section : (cs : List ℕ) → IsTrue (is_token (Section cs)) → IsTrue (list_all is_plain cs) → SpellsRun (encode_utf8_all (spelled (Section cs))) cs
-section cs is plain = (Section cs ∷ [], part_of_one (Section cs) is (plain_append cs (93 ∷ 93 ∷ 62 ∷ []) plain refl) refl, refl, append-nil cs)
-
-pub comment : (cs : List ℕ) → IsTrue (is_token (Comment cs)) → IsTrue (list_all is_plain cs) → SpellsRun (encode_utf8_all (spelled (Comment cs))) []
-comment cs is plain = (Comment cs ∷ [], part_of_one (Comment cs) is (plain_append cs (45 ∷ 45 ∷ 62 ∷ []) plain refl) refl, refl, refl)
-
-pub instruction : (name cs : List ℕ) → IsTrue (is_token (Instruction name cs)) → IsTrue (list_all is_plain cs) → SpellsRun (encode_utf8_all (spelled (Instruction name cs))) []
-instruction name cs is plain = (Instruction name cs ∷ [], part_of_one (Instruction name cs) is (plain_append name _ (name_plain name (name_chars name (and_parts (is_name name) _ is).0)) (plain_append cs (63 ∷ 62 ∷ []) plain refl)) refl, refl, refl)
+pub markup : (bytes text : List ℕ) → SpellsMarkup bytes text → SpellsRun bytes text
+markup bytes text s =
+    let w = markup_textual s.0 s.1 in
+    (s.0 ∷ [], token_part bytes s.0 s.2 w.1, and_from (is_textual s.0) true w.0 refl, append-nil (characters_of s.0) ∙ sym s.3)
 
 -- ---- one behind the other
 

@@ -159,3 +159,28 @@ one_token bytes t p = record {
 
 pub no_bytes : (bytes : List ℕ) → PartBy bytes [] → bytes ≡ []
 no_bytes bytes p = nothing_spelled bytes (record { encoded = p.encoded; spelled_so = p.spelled_so })
+
+pub token_part : (bytes : List ℕ) (t : Token) → SpellsToken bytes t → unbroken 0 (t ∷ []) ≡ true → PartBy bytes (t ∷ [])
+token_part bytes t s whole = record {
+  encoded = s.characters.encoded;
+  each = and_from (is_token t) true s.is refl;
+  spelled_so = s.characters.spelled_so ∙ sym (append-nil (spelled t));
+  whole = whole;
+}
+
+-- the first character is this one, where it is once line ends are turned
+pub first_char : (b : ℕ) (cs r : List ℕ) → eqb b 10 ≡ false → normal false cs ≡ b ∷ r → (more : List ℕ) × (cs ≡ b ∷ more) × (normal false more ≡ r)
+first_char b [] r h e = absurd cc
+first_char b (c ∷ cs) r h e = elim (eqb c 13) as (λ m. cond m (10 ∷ normal true cs) (c ∷ normal false cs) ≡ b ∷ r → (more : List ℕ) × (c ∷ cs ≡ b ∷ more) × (normal false more ≡ r)) [
+  | true ↦ λ k. absurd (feed b h (heads 10 b _ _ k))
+  | false ↦ λ k. (cs, ap (λ n. n ∷ cs) (heads c b _ _ k), tails c b _ _ k)
+] e
+  where
+    heads : (a b : ℕ) (x y : List ℕ) → a ∷ x ≡ b ∷ y → a ≡ b
+    heads a b x y e = cc
+
+    tails : (a b : ℕ) (x y : List ℕ) → a ∷ x ≡ b ∷ y → x ≡ y
+    tails a b x y e = cc
+
+    feed : (b : ℕ) → eqb b 10 ≡ false → 10 ≡ b → ⊥
+    feed b h e = let k : eqb 10 10 ≡ false = ap (λ n. eqb n 10) e ∙ h in cc

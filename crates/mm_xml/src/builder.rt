@@ -7,7 +7,7 @@ ghost use Rattle.mm_xml.specs.Inside.Machine.{Before, sign_step, finish_step, re
 ghost use Rattle.mm_xml.specs.Inside.Builds.{state_of, order_of, Advances, Finishes, Gives};
 
 use crate::error::XmlError;
-use crate::lexeme::{Lexeme, next_passage};
+use crate::lexeme::Lexeme;
 use crate::order::Order;
 use crate::stack::Stack;
 use crate::text::{clear, is_empty, push, push_all};
@@ -77,12 +77,7 @@ pub fn build(alloc: Global, order: Order, text: &str) -> Result<Plain, XmlError>
         if is_empty(rest) {
             break;
         }
-        let Some((lexeme, behind)) = next_passage(alloc, order.is_inside(), rest)? else {
-            return Err(XmlError::NotXml);
-        };
-        if !order.accept(&lexeme) {
-            return Err(XmlError::NotXml);
-        }
+        let (lexeme, behind) = order.next_lexeme(alloc, rest)?;
         builder.step(alloc, lexeme)?;
         rest = behind;
     }

@@ -2,8 +2,8 @@
 //! proof is all that it does. `one_tree` says that the definition leaves no choice, `valid_tree` that
 //! what is spelled can be stored, `reads_back` that what is written spells the node, and the others are
 //! the productions of XML 1.0, fifth edition, as sentences on bytes: from parts to the whole, and, where a
-//! name ends with `_parts`, from the whole to its parts. What the former take in characters has its line
-//! ends turned: no carriage return. The latter take bytes as they are.
+//! name ends with `_parts`, from the whole to its parts. Where a law takes characters in place of bytes, their
+//! line ends are turned already: no carriage return.
 
 ghost use Rattle.std.specs.Prelude.{◌≡◌, ◌<◌, ◌^◌, ◌++◌, ◌∷◌, [], ◌⊎◌, ◌||◌, false, true, ℕ, Bool, List, Option, Some, length, map, IsTrue};
 ghost use Rattle.std.specs.List.{list_all, flat_map};
@@ -18,7 +18,7 @@ ghost use Rattle.mm_xml.specs.Letters.{referred, is_free};
 ghost use Rattle.mm_xml.specs.Syntax.{is_literal, not_semicolon, Reference, Written, is_written, spelled_written, attribute_of, External, Token, Data, Section, Comment, Instruction, Start, Close, Doctype, is_token, spelled, Declaration};
 ghost use Rattle.mm_xml.specs.Grammar.{spelled_first, Spells};
 ghost use Rattle.mm_xml.specs.Productions.{is_plain, with_line_feeds, SpellsRun, ends_run, ends_markup, ends_text, SpellsContent, behind_text, SpellsElement, is_misc, SpellsMisc, SpellsProlog, is_first, is_marked, SpellsDocument, SpellsText};
-ghost use Rattle.mm_xml.specs.Parts.{SpellsCharacters, SpellsToken, DocumentParts, PrologParts, MiscParts, ElementParts, ContentParts, RunParts, TextParts, ReferenceParts, SectionParts, CommentParts, InstructionParts, SpellsAttributes, StartParts, EndParts, MoreAttributes, AttributeParts, TypeParts};
+ghost use Rattle.mm_xml.specs.Parts.{SpellsCharacters, SpellsToken, SpellsCharData, SpellsMarkup, DocumentParts, PrologParts, MiscParts, ElementParts, ContentParts, RunParts, TextParts, ReferenceParts, SectionParts, CommentParts, InstructionParts, SpellsAttributes, StartParts, EndParts, MoreAttributes, AttributeParts, TypeParts};
 ghost use Rattle.mm_xml.specs.Writing.{written, without_labels, are_apart, is_marked_text};
 
 /// Bytes spell at most one tree.
@@ -83,27 +83,12 @@ pub fn no_text()
 
 /// A text may be CharData, in which `]]>` doesn't stand.
 pub fn char_data()
-    ensures { (text : List ℕ) → IsTrue (list_all is_plain text) → IsTrue (list_all is_literal text) → IsTrue (is_free (93 ∷ 93 ∷ 62 ∷ []) text) → SpellsRun (encode_utf8_all text) text }
+    ensures { (bytes text : List ℕ) → SpellsCharData bytes text → SpellsRun bytes text }
 {}
 
-/// A text may be a Reference, which stands for its character.
-pub fn reference()
-    ensures { (body : List ℕ) (c : ℕ) → IsTrue (list_all is_plain body) → IsTrue (list_all not_semicolon body) → referred body ≡ Some c → SpellsRun (encode_utf8_all (38 ∷ (body ++ 59 ∷ []))) (c ∷ []) }
-{}
-
-/// A text may be a CDSect, which stands for its characters.
-pub fn section()
-    ensures { (cs : List ℕ) → IsTrue (is_token (Section cs)) → IsTrue (list_all is_plain cs) → SpellsRun (encode_utf8_all (spelled (Section cs))) cs }
-{}
-
-/// A Comment adds nothing to a text.
-pub fn comment()
-    ensures { (cs : List ℕ) → IsTrue (is_token (Comment cs)) → IsTrue (list_all is_plain cs) → SpellsRun (encode_utf8_all (spelled (Comment cs))) [] }
-{}
-
-/// A PI adds nothing to a text.
-pub fn instruction()
-    ensures { (name cs : List ℕ) → IsTrue (is_token (Instruction name cs)) → IsTrue (list_all is_plain cs) → SpellsRun (encode_utf8_all (spelled (Instruction name cs))) [] }
+/// A text may be a Reference or a CDSect, which stand for their characters, or a Comment or a PI, which add none.
+pub fn markup()
+    ensures { (bytes text : List ℕ) → SpellsMarkup bytes text → SpellsRun bytes text }
 {}
 
 /// Texts behind one another are one text, where no run of CharData goes on from one to the other.
@@ -113,12 +98,12 @@ pub fn joined_text()
 
 /// An element is an EmptyElemTag.
 pub fn empty_element()
-    ensures { (name gap : List ℕ) (attributes : List Written) → IsTrue (is_token (Start true name attributes gap)) → IsTrue (list_all is_plain (flat_map spelled_written attributes ++ gap)) → SpellsElement (encode_utf8_all (spelled (Start true name attributes gap))) (Element (encode_utf8_all name) (map attribute_of attributes), none) }
+    ensures { (bytes name gap : List ℕ) (attributes : List Written) → SpellsToken bytes (Start true name attributes gap) → SpellsElement bytes (Element (encode_utf8_all name) (map attribute_of attributes), none) }
 {}
 
 /// An element is a STag, content and an ETag of the same name.
 pub fn element()
-    ensures { (name gap close_gap content : List ℕ) (attributes : List Written) (children : Trees Kind) → IsTrue (is_token (Start false name attributes gap)) → IsTrue (list_all is_plain (flat_map spelled_written attributes ++ gap)) → IsTrue (list_all is_space close_gap) → IsTrue (list_all is_plain close_gap) → SpellsContent content children → SpellsElement (encode_utf8_all (spelled (Start false name attributes gap)) ++ (content ++ encode_utf8_all (spelled (Close name close_gap)))) (Element (encode_utf8_all name) (map attribute_of attributes), children) }
+    ensures { (opening content closing name gap close_gap : List ℕ) (attributes : List Written) (children : Trees Kind) → SpellsToken opening (Start false name attributes gap) → SpellsContent content children → SpellsToken closing (Close name close_gap) → SpellsElement (opening ++ (content ++ closing)) (Element (encode_utf8_all name) (map attribute_of attributes), children) }
 {}
 
 /// Content may be nothing.

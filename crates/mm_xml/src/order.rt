@@ -1,13 +1,16 @@
 //! Which lexeme may stand where.
 
-ghost use Rattle.std.specs.Prelude.{◌≡◌, ◌+◌, ◌<◌, ◌≤◌, ◌^◌, false, true, IsTrue};
+ghost use Rattle.std.specs.Prelude.{◌≡◌, ◌+◌, ◌<◌, ◌≤◌, ◌^◌, false, true, IfOk, IsTrue};
+ghost use Rattle.std.specs.Str.{chars};
 ghost use Rattle.mm_xml.specs.Inside.Machine.{document as document_order, text as text_order, sign_may, sign_next};
-ghost use Rattle.mm_xml.specs.Inside.Builds.{order_of};
+ghost use Rattle.mm_xml.specs.Inside.Builds.{order_of, Follows};
 ghost use Rattle.mm_xml.specs.Grammar.{is_inside};
 ghost use Rattle.mm_xml.specs.Inside.Lexemes.{sign_of};
 
+use crate::error::XmlError;
 use crate::letters::is_space;
-use crate::lexeme::Lexeme;
+use crate::lexeme::{Lexeme, next_passage};
+use std::alloc::Global;
 
 /// What the lexemes so far leave open: how many `]` stand just before, whether a document type may still
 /// stand, how many elements are open, and whether all is a text, which has no tags.
@@ -104,7 +107,7 @@ impl Order {
     }
 
     /// Takes the lexeme in, where it may stand here.
-    pub fn accept(&mut self, lexeme: &Lexeme<'_>) -> bool
+    fn accept(&mut self, lexeme: &Lexeme<'_>) -> bool
         requires deep { self.old.depth + 1 < 2 ^ 64 }
         requires square { self.old.squares + 1 < 2 ^ 64 }
         ensures may { result ≡ sign_may (order_of self.old) (sign_of lexeme.now) }
@@ -117,5 +120,27 @@ impl Order {
             self.advance(lexeme);
         }
         may
+    }
+
+    /// Takes in the lexeme at the front, where it may stand here. Gives it, and what comes after it.
+    pub fn next_lexeme<'a>(
+        &mut self,
+        alloc: Global,
+        text: &'a str,
+    ) -> Result<(Lexeme<'a>, &'a str), XmlError>
+        requires deep { self.old.depth + 1 < 2 ^ 64 }
+        requires square { self.old.squares + 1 < 2 ^ 64 }
+        ensures follows { Follows result (order_of self.old) (order_of self.new) (chars text.now) }
+        ensures depth { IfOk result (λ x. self.new.depth ≤ self.old.depth + 1) }
+        ensures squares { IfOk result (λ x. self.new.squares ≤ self.old.squares + 1) }
+    {
+        let Some((lexeme, behind)) = next_passage(alloc, self.is_inside(), text)? else {
+            return Err(XmlError::NotXml);
+        };
+        if self.accept(&lexeme) {
+            Ok((lexeme, behind))
+        } else {
+            Err(XmlError::NotXml)
+        }
     }
 }

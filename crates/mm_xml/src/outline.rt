@@ -8,7 +8,7 @@ ghost use Rattle.mm_xml.specs.Inside.Lexemes.{sign_of};
 
 use crate::error::XmlError;
 use crate::letters::{is_blank, is_space};
-use crate::lexeme::{Lexeme, next_passage};
+use crate::lexeme::Lexeme;
 use crate::order::Order;
 use crate::text::is_empty;
 use mm_tree::Text;
@@ -130,12 +130,7 @@ pub fn find_tree(alloc: Global, order: Order, text: &str) -> Result<(), XmlError
         if is_empty(rest) {
             break;
         }
-        let Some((lexeme, behind)) = next_passage(alloc, order.is_inside(), rest)? else {
-            return Err(XmlError::NotXml);
-        };
-        if !order.accept(&lexeme) {
-            return Err(XmlError::NotXml);
-        }
+        let (lexeme, behind) = order.next_lexeme(alloc, rest)?;
         blank = outline.step(blank, lexeme)?;
         rest = behind;
     }

@@ -13,9 +13,12 @@ use Rattle.mm_xml.specs.declared.outline.Outline.{Outline}
 use Rattle.mm_xml.specs.declared.error.XmlError.{XmlError}
 use Rattle.mm_xml.specs.declared.error.XmlError.TheVariants as error
 use Rattle.mm_xml.specs.declared.order.Order.{Order}
+use Rattle.mm_xml.specs.declared.lexeme.Lexeme.{Lexeme}
 use Rattle.mm_xml.specs.Inside.Machine.{Frame, State, Before, Inside, After, depth_of, deepest_of}
 use Rattle.mm_xml.specs.Inside.Machine as machine
+use Rattle.mm_xml.specs.Inside.Lexemes.{sign_of}
 use Rattle.mm_xml.specs.Inside.Outlines.{Outlined, outlined}
+use Rattle.mm_xml.specs.Inside.Passages.{allowed_at}
 use Rattle.mm_xml.specs.Refusals.{most_levels, IsShallow, IsTooDeep}
 
 abbrev pub frame_of : Opened → Frame
@@ -38,6 +41,13 @@ outline_of o = outlined (reverse o.names.items) o.begun
 
 abbrev pub order_of : Order → machine.Order
 order_of o = record { squares = o.squares; before = o.before; depth = o.depth; textual = o.textual }
+
+-- the next lexeme in its order, and what comes after it
+abbrev pub Follows : Result (Lexeme × Bor (List ℕ)) XmlError → machine.Order → machine.Order → List ℕ → Type 0
+Follows (Ok x) old new cs = (allowed_at old cs ≡ Some (sign_of x.0, chars x.1.now)) × (new ≡ machine.sign_next old (sign_of x.0))
+Follows (Err error.NotXml) old new cs = allowed_at old cs ≡ None
+Follows (Err error.TooDeep) old new cs = ⊥
+Follows (Err error.Memory) old new cs = Unit {0}
 
 -- A step that may add a node: there is room for it, or it would be a level too many.
 abbrev pub Steps : {U : Type 0} → Result U XmlError → Bool → State → State → Option State → Type 0

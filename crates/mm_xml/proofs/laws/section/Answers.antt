@@ -1,5 +1,0 @@
-use Rattle.mm_xml.proofs.Runs as runs
-use Rattle.mm_xml.proofs.laws.section.Goals as goal
-
-pub returns : goal.returns
-returns c = λ cs is plain. runs.section cs is plain
