@@ -1,13 +1,14 @@
 -- The candidates that own a match of each word are the answers.
 use Rattle.std.proofs.Common.{inl, inr, ◌≡◌, ℕ, zero, suc, ◌<◌, length, get_or, arith, List, reverse, [], ◌∷◌, subst, ◌∙◌}
 use Rattle.mm_label.specs.Fronts.{Label, Front, Within, Ascends}
-use Rattle.mm_lists.specs.Full.{Full, IsFullNode, Word}
+use Rattle.mm_lists.specs.Full.{MeetsAll, IsFullNode, Word}
 use Rattle.mm_label.specs.Label.{whole}
 use Rattle.mm_tree.specs.Trees.{Trees, none, node}
 use Rattle.mm_tree.specs.Search.{Worded, list_of, lists_of}
 use Rattle.mm_lists.specs.Formed.{WellFormed}
 use Rattle.mm_tree.specs.Elca.{elca}
-use Rattle.mm_elca.specs.Owning.{IsOwn, OwnsEach, IsOwner, Gathered}
+use Rattle.mm_elca.specs.Owning.{IsOwn, OwnsEach, IsOwner}
+use Rattle.mm_elca.specs.Inside.Gathering.{Gathered}
 use Rattle.mm_label.specs.Facts.Fronts.{front_refl, front_antisym, front_cases}
 use Rattle.mm_label.specs.Facts.Lists.{met, meets}
 use Rattle.mm_lists.specs.Facts.Below.{NodeOf, node_below, full_lists, lists_full}
@@ -15,7 +16,7 @@ use Rattle.mm_label.specs.Facts.Children.{under}
 use Rattle.mm_lists.specs.Facts.Listed.{listed_node, node_whole, full_at}
 use Rattle.mm_elca.proofs.Owners.{OwnAt, OwnsAll, Owners, elca_owners, one_owners, at_list, list_at}
 use Rattle.mm_elca.proofs.Owned.{elca_candidate}
-use Rattle.mm_elca.specs.Stack.{Judged}
+use Rattle.mm_elca.specs.Inside.Stack.{Judged}
 use Rattle.mm_elca.proofs.Stacking.{within_reversed, reversed_within, ascends_reversed}
 
 -- a whole front of a node's label, below y, is a node
@@ -52,7 +53,7 @@ lists_owns : (query ws : List Word) (f : Trees Worded) (x : Label) → OwnsEach 
 lists_owns query [] f x h = tt
 lists_owns query (w ∷ ws) f x h = let t = h.0 in ((t.0, list_at t.0 w f t.1, lists_own query f x t.0 t.2), lists_owns query ws f x h.1)
 
-owner_full : (all ls : List (List Label)) (x : Label) → OwnsEach all x ls → Full x ls
+owner_full : (all ls : List (List Label)) (x : Label) → OwnsEach all x ls → MeetsAll x ls
 owner_full all [] x h = tt
 owner_full all (l ∷ ls) x h = let t = h.0 in (meets x l t.0 t.1 t.2.0, owner_full all ls x h.1)
 

@@ -10,8 +10,8 @@ use Rattle.mm_lists.specs.Facts.Nearest.{RightMatch}
 use Rattle.mm_label.specs.Facts.Order.{past_apart, apart_past, le_of}
 use Rattle.mm_label.specs.Facts.Lists.{within_longer, within_last, within_cases}
 use Rattle.mm_label.specs.Facts.Members.{contains_of, within_of}
-use Rattle.mm_elca.specs.Children.{AreBelow, AreChildrenTo, AreChildren, RiseOrStay, IsNextChild}
-use Rattle.mm_elca.specs.Clear.{Clear, IsFirstClear, is_under, Tells, TellsAll}
+use Rattle.mm_elca.specs.Inside.Children.{AreBelow, AreChildrenTo, AreChildren, RiseOrStay, IsNextChild}
+use Rattle.mm_elca.specs.Inside.Clear.{Clear, IsFirstClear, is_under, HasClear, HaveClear}
 use Rattle.mm_elca.specs.Owning.{IsOwn}
 use Rattle.mm_label.specs.Facts.Children.{child_first, children_rise}
 
@@ -143,15 +143,15 @@ past_step_in ms ks x k p o s h e n = past_skip ms ks x k p o h (front_yes k p e)
 pub past_step_out : (ms ks : List Label) (x k p : Label) → IsFirstClear ms x ks (Some p) → is_front k p ≡ false → IsFirstClear ms x (ks ++ k ∷ []) (Some p)
 past_step_out ms ks x k p h e = past_keep ms ks x k p h (front_no k p e)
 
-pub tells : (ms ks : List Label) (x : Label) (o : Option Label) → IsFirstClear ms x ks o → Tells ms x ks (is_under x o)
+pub tells : (ms ks : List Label) (x : Label) (o : Option Label) → IsFirstClear ms x ks o → HasClear ms x ks (is_under x o)
 tells ms ks x None h = λ p w f c. h p w (front_le x p f) c
 tells ms ks x (Some q) h = by (is_front x q) refl
   where
-    by : (b : Bool) → is_front x q ≡ b → Tells ms x ks b
+    by : (b : Bool) → is_front x q ≡ b → HasClear ms x ks b
     by true e = (q, h.0, front_yes x q e, h.2)
     by false e = λ p w f c. front_no x q e (between_front x q p h.1 (h.3 p w (front_le x p f) c) f)
 
-pub tells_more : (ls : List (List Label)) (ms ks : List Label) (x : Label) (a b : Bool) → TellsAll ls x ks a → Tells ms x ks b → TellsAll (ls ++ ms ∷ []) x ks (a && b)
+pub tells_more : (ls : List (List Label)) (ms ks : List Label) (x : Label) (a b : Bool) → HaveClear ls x ks a → HasClear ms x ks b → HaveClear (ls ++ ms ∷ []) x ks (a && b)
 tells_more [] ms ks x true true h t = (t, refl)
 tells_more [] ms ks x true false h t = inl t
 tells_more [] ms ks x false b h t = absurd (cc)

@@ -2,12 +2,14 @@
 use Rattle.std.proofs.Common.{inl, inr, ◌≡◌, ◌∙◌, ℕ, ◌+◌, ◌≤◌, length, take, drop, take_all, arith, ap, List, [], ◌∷◌, ◌++◌, Option, Some, None, Result, Ok, Err, OnOk, refl, sym, subst}
 use Rattle.std.proofs.lemmas.List.{length-drop, drop_all, take_more}
 use Rattle.mm_label.specs.Fronts.{Label, Front, Within, Meets, Ascends}
-use Rattle.mm_lists.specs.Full.{Full, IsFullNode, IsCandidate, or_empty}
+use Rattle.mm_lists.specs.Full.{MeetsAll, IsFullNode, IsCandidate}
+use Rattle.mm_lists.specs.Inside.Narrowing.{or_empty}
 use Rattle.mm_lists.specs.Facts.Nearest.{NextMatch}
 use Rattle.mm_label.specs.Facts.Fronts.{front_antisym}
 use Rattle.mm_label.specs.Facts.Lists.{met, meets, within_drop, within_last, within_longer, within_cases}
 use Rattle.mm_lists.specs.Lists.{head_of}
-use Rattle.mm_elca.specs.Owning.{Gathered, Gathering, Candidates, IsInOrder, TakesIn}
+use Rattle.mm_elca.specs.Owning.{Candidates}
+use Rattle.mm_elca.specs.Inside.Gathering.{Gathered, Gathering, IsInOrder, TakesIn}
 use Rattle.mm_lists.specs.Facts.Walking.{head_none, head_some, next_is, drop_rest}
 
 last_length : (c : Label) (ds : List Label) → length (ds ++ c ∷ []) ≡ length ds + 1
@@ -91,7 +93,7 @@ gathered_sorted all ms cs ds g s = record {
   each = λ v y w i f. let t = g.each v y w i f in (t.0, s.all t.0 t.1, t.2);
 }
 
-pub gathered_candidates : (all : List (List Label)) (ms cs : List Label) → ((z : Label) → Full z all → Meets z ms) → Gathered all ms cs → Ascends cs → Candidates all cs
+pub gathered_candidates : (all : List (List Label)) (ms cs : List Label) → ((z : Label) → MeetsAll z all → Meets z ms) → Gathered all ms cs → Ascends cs → Candidates all cs
 gathered_candidates all ms cs own g a = record {
   ascends = a;
   full = g.full;

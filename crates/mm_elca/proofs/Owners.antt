@@ -1,5 +1,5 @@
 -- The recursion on trees gives the nodes that own a match of each word.
-use Rattle.std.proofs.Common.{inl, inr, ◌≡◌, ◌⊎◌, Bool, true, false, not, cond, ◌&&◌, ◌||◌, List, [], ◌∷◌, ◌++◌, refl, sym, subst, ◌∙◌}
+use Rattle.std.proofs.Common.{inl, inr, ◌≡◌, ◌⊎◌, Bool, true, false, not, cond, ◌&&◌, ◌||◌, List, [], ◌∷◌, ◌++◌, refl, sym, subst}
 use Rattle.std.proofs.lemmas.Bool.{or_cases, or_left, or_right, and_parts, and_from}
 use Rattle.mm_label.specs.Fronts.{Label, Front, Within, Lt, Ascends}
 use Rattle.mm_lists.specs.Full.{Word}
@@ -8,12 +8,12 @@ use Rattle.mm_tree.specs.Trees.{Trees, none, node}
 use Rattle.mm_tree.specs.Search.{Worded, has, holds, is_full, list_of}
 use Rattle.mm_lists.specs.Formed.{WellFormed}
 use Rattle.mm_tree.specs.Elca.{outside, owns, elca}
-use Rattle.mm_label.specs.Facts.Fronts.{front_refl, front_trans, front_antisym, apart_below, below_apart, le_antisym}
+use Rattle.mm_label.specs.Facts.Fronts.{front_refl, front_trans, front_antisym, apart_below, below_apart}
 use Rattle.mm_lists.specs.Facts.Below.{NodeOf, node_below, node_after, HasBelow, AllBelow, AllOne, full_of, of_full}
 use Rattle.mm_label.specs.Facts.Children.{under}
-use Rattle.mm_label.specs.Facts.Lists.{within_own, apart_lt, lt_below, ascends_own}
-use Rattle.mm_label.specs.Facts.Ordered.{ordered_joined}
-use Rattle.mm_label.specs.Facts.Members.{within_joined}
+use Rattle.mm_label.specs.Facts.Lists.{within_own, own_cases, own_of, apart_lt, lt_below, lt_once, ascends_own}
+use Rattle.mm_label.specs.Facts.Ordered.{ordered_joined, ordered_same}
+use Rattle.mm_label.specs.Facts.Members.{within_joined, within_first, within_second}
 
 -- the node m holds the word itself
 abbrev pub HasAt : Label → Word → Trees Worded → Type 0
@@ -222,26 +222,10 @@ all_owns query (w ∷ ws) all e inner rest y p h =
 
 -- ---- the list
 
-own_in : (b : Bool) (x : Label) → b ≡ true → Within x (cond b (x ∷ []) [])
-own_in true x e = inl refl
-own_in false x e = absurd (cc)
-
-in_own : (b : Bool) (x u : Label) → Within u (cond b (x ∷ []) []) → (b ≡ true) × (u ≡ x)
-in_own true x u h = elim h [ inl k ↦ (refl, k) | inr k ↦ absurd k ]
-in_own false x u h = absurd h
-
-pub join_left : (x : Label) (xs ys : List Label) → Within x xs → Within x (xs ++ ys)
-join_left x [] ys w = absurd w
-join_left x (a ∷ xs) ys w = elim w [ inl k ↦ inl k | inr k ↦ inr (join_left x xs ys k) ]
-
-pub join_right : (x : Label) (xs ys : List Label) → Within x ys → Within x (xs ++ ys)
-join_right x [] ys w = w
-join_right x (a ∷ xs) ys w = inr (join_right x xs ys w)
-
 pub elca_owns : (query : List Word) (all f : Trees Worded) (y u : Label) → Placed all f y → Within u (elca query f) → NodeOf u f × OwnsAll query all u query
 elca_owns query all none y u p h = absurd h
 elca_owns query all (node e inner rest) y u p h = elim (within_joined u (cond (owns query query e inner) (e.label ∷ []) []) (elca query inner ++ elca query rest) h) [
-  | inl k ↦ let t = in_own (owns query query e inner) e.label u k in
+  | inl k ↦ let t = own_cases (owns query query e inner) e.label u k in
       (inl t.1, subst (λ (x : Label). OwnsAll query all x query) (sym t.1) (owns_all query query all e inner rest y p t.0))
   | inr k ↦ elim (within_joined u (elca query inner) (elca query rest) k) [
     | inl q ↦ let t = elca_owns query all inner e.label u (placed_inner all e inner rest y p) q in (inr (inl t.0), t.1)
@@ -252,12 +236,11 @@ elca_owns query all (node e inner rest) y u p h = elim (within_joined u (cond (o
 pub owns_elca : (query : List Word) (all f : Trees Worded) (y u : Label) → Placed all f y → NodeOf u f → OwnsAll query all u query → Within u (elca query f)
 owns_elca query all none y u p n h = absurd n
 owns_elca query all (node e inner rest) y u p n h = elim n [
-  | inl k ↦ join_left u (cond (owns query query e inner) (e.label ∷ []) []) (elca query inner ++ elca query rest)
-      (subst (λ (x : Label). Within x (cond (owns query query e inner) (e.label ∷ []) [])) (sym k)
-      (own_in (owns query query e inner) e.label (all_owns query query all e inner rest y p (subst (λ (x : Label). OwnsAll query all x query) k h))))
-  | inr k ↦ join_right u (cond (owns query query e inner) (e.label ∷ []) []) (elca query inner ++ elca query rest) (elim k [
-    | inl q ↦ join_left u (elca query inner) (elca query rest) (owns_elca query all inner e.label u (placed_inner all e inner rest y p) q h)
-    | inr q ↦ join_right u (elca query inner) (elca query rest) (owns_elca query all rest y u (placed_rest all e inner rest y p) q h)
+  | inl k ↦ within_first u (cond (owns query query e inner) (e.label ∷ []) []) (elca query inner ++ elca query rest)
+      (own_of (owns query query e inner) e.label u (all_owns query query all e inner rest y p (subst (λ (x : Label). OwnsAll query all x query) k h)) k)
+  | inr k ↦ within_second u (cond (owns query query e inner) (e.label ∷ []) []) (elca query inner ++ elca query rest) (elim k [
+    | inl q ↦ within_first u (elca query inner) (elca query rest) (owns_elca query all inner e.label u (placed_inner all e inner rest y p) q h)
+    | inr q ↦ within_second u (elca query inner) (elca query rest) (owns_elca query all rest y u (placed_rest all e inner rest y p) q h)
   ])
 ]
 
@@ -296,29 +279,8 @@ elca_owners query all g =
 
 -- ---- one list
 
-lt_not_itself : (x : Label) (r : List Label) → Ascends (x ∷ r) → Within x r → ⊥
-lt_not_itself x r g w = (g.0 x w).1 refl
-
-lt_rest : (x y : Label) (r s : List Label) → x ≡ y → Ascends (x ∷ r) → ((u : Label) → Within u (x ∷ r) → Within u (y ∷ s)) → (u : Label) → Within u r → Within u s
-lt_rest x y r s e g h u w = elim (h u (inr w)) [
-  | inl k ↦ absurd (lt_not_itself x r g (subst (λ (t : Label). Within t r) (k ∙ sym e) w))
-  | inr k ↦ k
-]
-
-pub same_ascending : (r s : List Label) → Ascends r → Ascends s → ((u : Label) → Within u r → Within u s) → ((u : Label) → Within u s → Within u r) → r ≡ s
-same_ascending [] [] g h p q = refl
-same_ascending [] (y ∷ s) g h p q = absurd (q y (inl refl))
-same_ascending (x ∷ r) [] g h p q = absurd (p x (inl refl))
-same_ascending (x ∷ r) (y ∷ s) g h p q =
-    let first : x ≡ y = elim (p x (inl refl)) [
-      | inl e ↦ e
-      | inr k ↦ elim (q y (inl refl)) [ inl e ↦ sym e | inr m ↦ le_antisym x y (g.0 y m).0 (h.0 x k).0 ]
-    ] in
-    let rest : r ≡ s = same_ascending r s g.1 h.1 (lt_rest x y r s first g p) (lt_rest y x s r (sym first) h q) in
-    cc (first, rest)
-
 pub one_owners : (query : List Word) (all : Trees Worded) (r s : List Label) → Owners query all r → Owners query all s → r ≡ s
-one_owners query all r s d e = same_ascending r s d.ascends e.ascends
+one_owners query all r s d e = ordered_same Lt r s lt_once d.ascends e.ascends
     (λ u w. let t = d.owns u w in e.every u t.0 t.1)
     (λ u w. let t = e.owns u w in d.every u t.0 t.1)
 
@@ -333,15 +295,15 @@ at_list m w none h = absurd h
 at_list m w (node e inner rest) h = elim h [
   | inl k ↦ elim k [
     | inl q ↦ own_list (has e w) e.label m (list_of w inner ++ list_of w rest) q
-    | inr q ↦ join_right m (cond (has e w) (e.label ∷ []) []) (list_of w inner ++ list_of w rest) (join_left m (list_of w inner) (list_of w rest) (at_list m w inner q))
+    | inr q ↦ within_second m (cond (has e w) (e.label ∷ []) []) (list_of w inner ++ list_of w rest) (within_first m (list_of w inner) (list_of w rest) (at_list m w inner q))
   ]
-  | inr k ↦ join_right m (cond (has e w) (e.label ∷ []) []) (list_of w inner ++ list_of w rest) (join_right m (list_of w inner) (list_of w rest) (at_list m w rest k))
+  | inr k ↦ within_second m (cond (has e w) (e.label ∷ []) []) (list_of w inner ++ list_of w rest) (within_second m (list_of w inner) (list_of w rest) (at_list m w rest k))
 ]
 
 pub list_at : (m : Label) (w : Word) (f : Trees Worded) → Within m (list_of w f) → HasAt m w f
 list_at m w none h = absurd h
 list_at m w (node e inner rest) h = elim (within_joined m (cond (has e w) (e.label ∷ []) []) (list_of w inner ++ list_of w rest) h) [
-  | inl k ↦ inl (inl (in_own (has e w) e.label m k))
+  | inl k ↦ inl (inl (own_cases (has e w) e.label m k))
   | inr k ↦ elim (within_joined m (list_of w inner) (list_of w rest) k) [
     | inl q ↦ inl (inr (list_at m w inner q))
     | inr q ↦ inr (list_at m w rest q)

@@ -3,7 +3,7 @@ use Rattle.std.proofs.Common.{ℕ, length, ◌+◌, ◌*◌, ◌≤◌, arith, a
 use Rattle.std.proofs.lemmas.Grind.{reverse_onto}
 use Rattle.mm_label.specs.Fronts.{Label, Front, is_front, Apart, Within, Meets, Lt, Ascends}
 use Rattle.mm_lists.specs.Full.{IsFull, IsFullNode}
-use Rattle.mm_elca.specs.Stack.{Falling, Descends, Stacked, Parted, Judged, Off}
+use Rattle.mm_elca.specs.Inside.Stack.{Falling, Descends, Stacked, Parted, Judged, Off}
 use Rattle.mm_label.specs.Facts.Fronts.{front_yes, front_no, front_refl, front_trans, front_antisym, fronts_of_one, front_le, le_antisym, apart_trans, apart_below}
 use Rattle.mm_label.specs.Facts.Lists.{met, within_longer, within_last, within_cases}
 use Rattle.mm_lists.specs.Facts.Walking.{rising_more}

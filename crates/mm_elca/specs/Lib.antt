@@ -1,5 +1,3 @@
 pub mod Bound
-pub mod Children
-pub mod Clear
 pub mod Owning
-pub mod Stack
+pub mod Inside

@@ -1,9 +1,8 @@
 -- A node owns an occurrence of a word where no full node truly below it is at or above that occurrence.
 -- ELCA: Xu and Papakonstantinou, "Efficient LCA based Keyword Search in XML Data", EDBT 2008.
-use Rattle.std.specs.Prelude.{ℕ, Option, Some, None, ◌<◌, length, take, drop, List, [], ◌∷◌, ◌++◌, ◌≡◌}
-use Rattle.mm_label.specs.Fronts.{Label, Front, Within, Meets, Lt, Ascends}
-use Rattle.mm_lists.specs.Full.{IsFull, IsFullNode, IsCandidate}
-use Rattle.mm_lists.specs.Lists.{head_of}
+use Rattle.std.specs.Prelude.{List, [], ◌∷◌, ◌≡◌}
+use Rattle.mm_label.specs.Fronts.{Label, Front, Within, Meets, Ascends}
+use Rattle.mm_lists.specs.Full.{IsFull, IsFullNode}
 
 -- no full label truly below x is at or above m
 abbrev pub IsOwn : List (List Label) → Label → Label → Type 0
@@ -22,31 +21,3 @@ pub record Candidates (all : List (List Label)) (cs : List Label) : Type 0 where
   pub ascends : Ascends cs
   pub full : (c : Label) → Within c cs → IsFullNode all c
   pub covers : (y : Label) → IsFullNode all y → Meets y cs
-
--- x is a full node before those that were passed, and each full label below it is above one of these
-pub record Ready (all : List (List Label)) (x : Label) (passed : List Label) : Type 0 where
-  pub here : IsFull all x
-  pub later : (c : Label) → Within c passed → Lt x c
-  pub full : (c : Label) → Within c passed → IsFull all c
-  pub covers : (y : Label) → IsFull all y → Front x y → (y ≡ x → ⊥) → (c : Label) × Within c passed × Front y c
-
--- full nodes, among them the candidate of each node of the list
-pub record Gathered (all : List (List Label)) (ms cs : List Label) : Type 0 where
-  pub full : (c : Label) → Within c cs → IsFullNode all c
-  pub each : (v y : Label) → Within v ms → IsFullNode all y → Front y v → (c : Label) × Within c cs × IsCandidate all v c
-
--- i nodes of the list were passed, and it stands at the next
-pub record Gathering (all : List (List Label)) (ms : List Label) (i : ℕ) (cs : List Label) (at : Option Label) : Type 0 where
-  pub gathered : Gathered all (take i ms) cs
-  pub here : at ≡ head_of (drop i ms)
-
--- a candidate is put behind the others, if there is one
-abbrev pub TakesIn : Option Label → List Label → List Label → Type 0
-TakesIn None old new = new ≡ old
-TakesIn (Some c) old new = (new ≡ old ++ c ∷ []) × (0 < length c)
-
--- the same labels in document order, each once
-pub record IsInOrder (these list : List Label) : Type 0 where
-  pub ascends : Ascends list
-  pub from : (u : Label) → Within u list → Within u these
-  pub all : (u : Label) → Within u these → Within u list

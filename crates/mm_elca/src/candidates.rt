@@ -7,9 +7,9 @@ ghost use Rattle.mm_tree.specs.Numbering.{Labelled};
 ghost use Rattle.mm_tree.specs.Forests.{is_well_formed};
 ghost use Rattle.mm_tree.specs.Search.{list_of, lists_of, worded};
 ghost use Rattle.mm_lists.specs.Causes.{Caused, IsSound};
-ghost use Rattle.mm_lists.specs.Full.{Full};
+ghost use Rattle.mm_lists.specs.Full.{MeetsAll};
 ghost use Rattle.mm_label.specs.Fronts.{Ascends};
-ghost use Rattle.mm_elca.specs.Owning.{Gathered, Gathering, IsInOrder, TakesIn};
+ghost use Rattle.mm_elca.specs.Inside.Gathering.{Gathered, Gathering, IsInOrder, TakesIn};
 
 use mm_host::Fault;
 use mm_label::Label;
@@ -43,7 +43,7 @@ fn pass<X: Lists, L: Ledger>(
     steps: &mut Steps<L>,
 ) -> Result<Option<Label>, Fault>
     requires { own < length words.now }
-    ensures value { (f : Trees Labelled) (i : ℕ) → IsTrue (is_well_formed f) → X.stands lists.old f → Full [] (lists_of words.now (worded f))
+    ensures value { (f : Trees Labelled) (i : ℕ) → IsTrue (is_well_formed f) → X.stands lists.old f → MeetsAll [] (lists_of words.now (worded f))
         → Gathering (lists_of words.now (worded f)) (list_of (get_or words.now own []) (worded f)) i found.old at
         → IfOk result (λ next. Gathering (lists_of words.now (worded f)) (list_of (get_or words.now own []) (worded f)) (i + 1) found.new next) }
     ensures count { OnOk result (length found.new ≤ length found.old + 1) }
@@ -85,7 +85,7 @@ pub fn gather<X: Lists, L: Ledger>(
     steps: &mut Steps<L>,
 ) -> Result<Items<Label>, Fault>
     requires { own < length words.now }
-    ensures value { (f : Trees Labelled) → IsTrue (is_well_formed f) → X.stands lists.old f → Full [] (lists_of words.now (worded f)) → length (list_of (get_or words.now own []) (worded f)) ≡ size
+    ensures value { (f : Trees Labelled) → IsTrue (is_well_formed f) → X.stands lists.old f → MeetsAll [] (lists_of words.now (worded f)) → length (list_of (get_or words.now own []) (worded f)) ≡ size
         → IfOk result (λ r. Gathered (lists_of words.now (worded f)) (list_of (get_or words.now own []) (worded f)) r) }
     ensures order { IfOk result Ascends }
     ensures count { IfOk result (λ r. length r ≤ size) }

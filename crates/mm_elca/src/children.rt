@@ -2,7 +2,7 @@
 
 ghost use Rattle.std.specs.Prelude.{◌≡◌, IfOk, length};
 ghost use Rattle.mm_label.specs.Label.{whole};
-ghost use Rattle.mm_elca.specs.Children.{AreBelow, AreChildrenTo};
+ghost use Rattle.mm_elca.specs.Inside.Children.{AreBelow, AreChildrenTo};
 
 use mm_label::Label;
 use mm_list::Items;

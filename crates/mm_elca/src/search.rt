@@ -7,10 +7,11 @@ ghost use Rattle.mm_tree.specs.Search.{list_of, lists_of, worded};
 ghost use Rattle.mm_tree.specs.Elca.{elca};
 ghost use Rattle.mm_lists.specs.Causes.{Caused, IsSound};
 ghost use Rattle.mm_label.specs.Fronts.{Label};
-ghost use Rattle.mm_lists.specs.Full.{Full};
+ghost use Rattle.mm_lists.specs.Full.{MeetsAll};
 ghost use Rattle.mm_elca.specs.Bound.{cost_of};
-ghost use Rattle.mm_elca.specs.Owning.{Candidates, IsOwner, Ready};
-ghost use Rattle.mm_elca.specs.Stack.{Judged, Stacked};
+ghost use Rattle.mm_elca.specs.Owning.{Candidates, IsOwner};
+ghost use Rattle.mm_elca.specs.Inside.Gathering.{Ready};
+ghost use Rattle.mm_elca.specs.Inside.Stack.{Judged, Stacked};
 
 use crate::candidates::gather;
 use crate::children::children_to;
@@ -104,7 +105,7 @@ fn answer_list<X: Lists, L: Ledger>(
     steps: &mut Steps<L>,
 ) -> Result<Items<Label>, Fault>
     requires { own < length words.now }
-    ensures value { (f : Trees Labelled) → IsTrue (is_well_formed f) → X.stands lists.old f → Full [] (lists_of words.now (worded f)) → length (list_of (get_or words.now own []) (worded f)) ≡ size
+    ensures value { (f : Trees Labelled) → IsTrue (is_well_formed f) → X.stands lists.old f → MeetsAll [] (lists_of words.now (worded f)) → length (list_of (get_or words.now own []) (worded f)) ≡ size
         → IfOk result (λ r. r ≡ elca words.now (worded f)) }
     ensures kept { (f : Trees Labelled) → X.stands lists.old f ↔ X.stands lists.new f }
     ensures ground { X.same_ground lists.old lists.new }

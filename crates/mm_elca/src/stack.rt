@@ -1,7 +1,7 @@
 //! The stack of the candidates that were passed.
 
 ghost use Rattle.std.specs.Prelude.{◌≡◌, ◌+◌, IfOk, length};
-ghost use Rattle.mm_elca.specs.Stack.{Falling, Off, Parted, Takes};
+ghost use Rattle.mm_elca.specs.Inside.Stack.{Falling, Off, Parted, Takes};
 
 use mm_label::Label;
 use mm_list::Items;

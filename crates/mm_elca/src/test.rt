@@ -6,8 +6,8 @@ ghost use Rattle.mm_tree.specs.Numbering.{Labelled};
 ghost use Rattle.mm_tree.specs.Search.{list_of, lists_of, worded};
 ghost use Rattle.mm_lists.specs.Causes.{Caused, IsSound};
 ghost use Rattle.mm_label.specs.Fronts.{Label};
-ghost use Rattle.mm_elca.specs.Children.{AreChildren, IsNextChild};
-ghost use Rattle.mm_elca.specs.Clear.{IsFirstClear, Tells, TellsAll, is_under};
+ghost use Rattle.mm_elca.specs.Inside.Children.{AreChildren, IsNextChild};
+ghost use Rattle.mm_elca.specs.Inside.Clear.{IsFirstClear, HasClear, HaveClear, is_under};
 
 use mm_host::Fault;
 use mm_label::Label;
@@ -58,7 +58,7 @@ fn own_match<X: Lists, L: Ledger>(
     lists: &mut X,
     steps: &mut Steps<L>,
 ) -> Result<bool, Fault>
-    ensures value { (f : Trees Labelled) → X.stands lists.old f → AreChildren x.now kids.now → IfOk result (λ b. Tells (list_of word.now (worded f)) x.now kids.now b) }
+    ensures value { (f : Trees Labelled) → X.stands lists.old f → AreChildren x.now kids.now → IfOk result (λ b. HasClear (list_of word.now (worded f)) x.now kids.now b) }
     ensures kept { (f : Trees Labelled) → X.stands lists.old f ↔ X.stands lists.new f }
     ensures ground { X.same_ground lists.old lists.new }
     ensures cause { Caused (X.fault_count lists.old) (X.fault_count lists.new) (X.spent lists.old) (X.spent lists.new) result }
@@ -87,7 +87,7 @@ pub fn owns_each<X: Lists, L: Ledger>(
     lists: &mut X,
     steps: &mut Steps<L>,
 ) -> Result<bool, Fault>
-    ensures value { (f : Trees Labelled) → X.stands lists.old f → AreChildren x.now kids.now → IfOk result (λ b. TellsAll (lists_of words.now (worded f)) x.now kids.now b) }
+    ensures value { (f : Trees Labelled) → X.stands lists.old f → AreChildren x.now kids.now → IfOk result (λ b. HaveClear (lists_of words.now (worded f)) x.now kids.now b) }
     ensures kept { (f : Trees Labelled) → X.stands lists.old f ↔ X.stands lists.new f }
     ensures ground { X.same_ground lists.old lists.new }
     ensures cause { Caused (X.fault_count lists.old) (X.fault_count lists.new) (X.spent lists.old) (X.spent lists.new) result }

@@ -6,19 +6,19 @@ use Rattle.std.proofs.lemmas.Bool.{cases_lt}
 use Rattle.mm_label.specs.Label.{IsBefore}
 use Rattle.mm_label.specs.Fronts.{Label, is_front, IsAtOrBefore}
 use Rattle.mm_fragment.specs.Matching.{Reaches}
-use Rattle.mm_fragment.specs.Children.{is_above}
+use Rattle.mm_fragment.specs.Inside.Children.{is_above}
 use Rattle.mm_label.specs.Facts.Fronts.{front_yes, is_front_of, front_le, le_antisym, between_front}
-use Rattle.mm_label.specs.Facts.Order.{before_lt, le_of, front_of, ancestor_of}
+use Rattle.mm_label.specs.Facts.Order.{before_lt, le_of}
 use Rattle.mm_label.specs.Facts.Places.{get_none, get_some, same_at, at_or_before}
 
 reaches_some : (x : Label) (ms : List Label) (i : ℕ) → AllPairs IsBefore ms → IsPartitionPoint (λ m. IsBefore m x) (λ m. IsAtOrBefore x m) ms i → i < length ms
     → is_front x (slice_index_or ms i []) ≡ true ↔ Reaches x ms
 reaches_some x ms i a p h = (
-  (λ e. (slice_index_or ms i [], (i, h, same_at ms i (slice_index_or ms i []) [] h), ancestor_of x (slice_index_or ms i []) (front_yes x (slice_index_or ms i []) e))),
+  (λ e. (slice_index_or ms i [], (i, h, same_at ms i (slice_index_or ms i []) [] h), front_yes x (slice_index_or ms i []) e)),
   λ r.
       let y = r.0 in
       let c = r.1 in
-      let f = front_of x y r.2 in
+      let f = r.2 in
       elim (cases_lt c.0 i) [
         | inl q ↦
             let b = before_lt y x (subst (λ (z : Label). IsBefore z x) c.2 (p.0 c.0 y (omega arith) q)) in
@@ -43,5 +43,5 @@ reaches_of x ms i o a p e = elim (cases_lt i (length ms)) [
           let c = r.1 in
           let q : c.0 < i = omega (arith, c.1) in
           let b = before_lt r.0 x (subst (λ (z : Label). IsBefore z x) c.2 (p.0 c.0 r.0 (omega arith) q)) in
-          absurd (b.1 (le_antisym r.0 x b.0 (front_le x r.0 (front_of x r.0 r.2)))),
+          absurd (b.1 (le_antisym r.0 x b.0 (front_le x r.0 r.2))),
     )

@@ -8,7 +8,7 @@ use Rattle.mm_match.specs.Marks.{under}
 use Rattle.mm_tree.specs.Trees.{Trees, none, node}
 use Rattle.mm_tree.specs.Search.{is_full}
 use Rattle.mm_tree.specs.Fragments.{Named, bare, bares, row_of, some, subset, less}
-use Rattle.mm_fragment.specs.Marked.{Rowed, marked, rows_in, pruned, number, mark_of, coded}
+use Rattle.mm_fragment.specs.Inside.Marked.{Rowed, marked, rows_in, pruned, mask_of, mark_of, coded}
 use Rattle.mm_fragment.proofs.FlatKept.{tops, outdone, thinned}
 
 same_test : (p q r s : ℕ) → (p ≡ q → r ≡ s) → (r ≡ s → p ≡ q) → nat_eq p q ≡ nat_eq r s
@@ -40,11 +40,11 @@ subset_step true false x y t h = not_test (bit_and x y * 2 ^ 1 + 0) (x * 2 ^ 1 +
 subset_step false true x y t h = same_test (bit_and x y * 2 ^ 1 + 0) (x * 2 ^ 1 + 0) (bit_and x y) x (λ e. omega arith) (λ e. omega arith) ∙ h
 subset_step false false x y t h = same_test (bit_and x y * 2 ^ 1 + 0) (x * 2 ^ 1 + 0) (bit_and x y) x (λ e. omega arith) (λ e. omega arith) ∙ h
 
-subset_is : (a b : List Bool) → length a ≡ length b → nat_eq (bit_and (number a) (number b)) (number a) ≡ subset a b
+subset_is : (a b : List Bool) → length a ≡ length b → nat_eq (bit_and (mask_of a) (mask_of b)) (mask_of a) ≡ subset a b
 subset_is [] b e = refl
 subset_is (x ∷ a) [] e = absurd (omega arith)
 subset_is (x ∷ a) (y ∷ b) e =
-    ap (λ (n : ℕ). nat_eq n (number a * 2 ^ 1 + cond x 1 0)) (and_more x y (number a) (number b)) ∙ subset_step x y (number a) (number b) (subset a b) (subset_is a b (omega arith))
+    ap (λ (n : ℕ). nat_eq n (mask_of a * 2 ^ 1 + cond x 1 0)) (and_more x y (mask_of a) (mask_of b)) ∙ subset_step x y (mask_of a) (mask_of b) (subset a b) (subset_is a b (omega arith))
 
 equal_step : (a b : Bool) (x y : ℕ) (s t : Bool) → nat_eq x y ≡ (s && t) → nat_eq (x * 2 ^ 1 + cond a 1 0) (y * 2 ^ 1 + cond b 1 0) ≡ (((not a || b) && s) && ((not b || a) && t))
 equal_step true true x y s t h = same_test (x * 2 ^ 1 + 1) (y * 2 ^ 1 + 1) x y (λ e. omega arith) (λ e. omega arith) ∙ h
@@ -56,13 +56,13 @@ equal_step false true x y s t h = not_test (x * 2 ^ 1 + 0) (y * 2 ^ 1 + 1) (λ e
     by true = refl
     by false = refl
 
-equal_is : (a b : List Bool) → length a ≡ length b → nat_eq (number a) (number b) ≡ (subset a b && subset b a)
+equal_is : (a b : List Bool) → length a ≡ length b → nat_eq (mask_of a) (mask_of b) ≡ (subset a b && subset b a)
 equal_is [] [] e = refl
 equal_is [] (y ∷ b) e = absurd (omega arith)
 equal_is (x ∷ a) [] e = absurd (omega arith)
-equal_is (x ∷ a) (y ∷ b) e = equal_step x y (number a) (number b) (subset a b) (subset b a) (equal_is a b (omega arith))
+equal_is (x ∷ a) (y ∷ b) e = equal_step x y (mask_of a) (mask_of b) (subset a b) (subset b a) (equal_is a b (omega arith))
 
-under_is : (a b : List Bool) → length a ≡ length b → under (number a) (number b) ≡ less a b
+under_is : (a b : List Bool) → length a ≡ length b → under (mask_of a) (mask_of b) ≡ less a b
 under_is a b e = rw (subset_is a b e, equal_is a b e) (by (subset a b))
   where
     by : (s : Bool) → (s && not (s && subset b a)) ≡ (s && not (subset b a))

@@ -6,18 +6,18 @@ use Rattle.std.proofs.lemmas.Nat.{or_block}
 use Rattle.std.proofs.lemmas.List.Folds.{list_any-append}
 use Rattle.std.proofs.lemmas.Bool.{and_parts}
 use Rattle.mm_match.specs.declared.mark.Mark.{Mark}
-use Rattle.mm_label.specs.Fronts.{Label, Front, is_front, Apart}
+use Rattle.mm_label.specs.Fronts.{Label, Front, is_front, Apart, Within}
 use Rattle.mm_match.specs.Marks.{mask_from, mask_at}
 use Rattle.mm_tree.specs.Trees.{Trees, none, node, preorder}
 use Rattle.mm_tree.specs.Search.{has, holds}
 use Rattle.mm_tree.specs.Fragments.{Named, bare, bares, row_of, some}
-use Rattle.mm_fragment.proofs.LinkFormed.{Formed}
-use Rattle.mm_fragment.specs.Marked.{Rowed, number}
+use Rattle.mm_tree.specs.Formed.{Formed, name_label}
+use Rattle.mm_fragment.specs.Inside.Marked.{Rowed, mask_of}
 use Rattle.mm_fragment.specs.Matching.{marks_of, matches_of}
 use Rattle.mm_fragment.proofs.Subtree.{apart_common}
-use Rattle.mm_label.specs.Facts.Fronts.{front_refl, front_trans, front_antisym, front_yes, is_front_of}
-use Rattle.mm_fragment.proofs.LinkTrees.{In, in_cases, any_none, node_under, node_apart}
-use Rattle.mm_fragment.proofs.FlatRebuild.{name_label, not_front}
+use Rattle.mm_label.specs.Facts.Fronts.{front_refl, front_trans, front_antisym, front_yes, is_front_of, not_front}
+use Rattle.mm_tree.specs.Facts.Places.{node_under, node_apart}
+use Rattle.mm_label.specs.Facts.Members.{within_joined, any_none}
 use Rattle.mm_fragment.proofs.MarkedOpen.{with_words, words_in}
 use Rattle.mm_fragment.proofs.LinkPaths.{Word, both_trees}
 
@@ -80,7 +80,7 @@ more_bits : (k : ℕ) → 2 ^ k + 2 ^ k ≡ 2 ^ suc k
 more_bits k = omega arith
 
 all_words : (n k : ℕ) (x : Label) (query : List Word) (es : List Named) → n < 2 ^ k
-    → mask_from n x (matches_of (2 ^ k) query es) ≡ n + 2 ^ k * number (map (λ w. reaches x w es) query)
+    → mask_from n x (matches_of (2 ^ k) query es) ≡ n + 2 ^ k * mask_of (map (λ w. reaches x w es) query)
 all_words n k x [] es h = omega arith
 all_words n k x (w ∷ query) es h =
     let m = n + cond (reaches x w es) (2 ^ k) 0 in
@@ -90,8 +90,8 @@ all_words n k x (w ∷ query) es h =
     ∙ (one_word n k x w es (matches_of (2 ^ k + 2 ^ k) query es) false h
     ∙ (ap (λ (p : ℕ). mask_from m x (matches_of p query es)) d
     ∙ (all_words m (suc k) x query es s
-    ∙ (ap (λ (p : ℕ). m + p * number (map (λ v. reaches x v es) query)) (sym d)
-    ∙ doubled n (2 ^ k) (number (map (λ v. reaches x v es) query)) (reaches x w es)))))
+    ∙ (ap (λ (p : ℕ). m + p * mask_of (map (λ v. reaches x v es) query)) (sym d)
+    ∙ doubled n (2 ^ k) (mask_of (map (λ v. reaches x v es) query)) (reaches x w es)))))
   where
     plain : (n : ℕ) → n ≡ n + 0
     plain n = omega arith
@@ -100,12 +100,12 @@ all_words n k x (w ∷ query) es h =
     small true = omega (arith, h)
     small false = omega (arith, h)
 
-pub mask_is : (x : Label) (query : List Word) (es : List Named) → mask_at x (matches_of 1 query es) ≡ number (map (λ w. reaches x w es) query)
+pub mask_is : (x : Label) (query : List Word) (es : List Named) → mask_at x (matches_of 1 query es) ≡ mask_of (map (λ w. reaches x w es) query)
 mask_is x query es = all_words 0 0 x query es (omega arith) ∙ omega arith
 
 -- ---- what is reached from a node
 
-none_reached : (x : Label) (w : Word) (es : List Named) → ((e : Named) → In e es → Front x e.label → ⊥) → reaches x w es ≡ false
+none_reached : (x : Label) (w : Word) (es : List Named) → ((e : Named) → Within e es → Front x e.label → ⊥) → reaches x w es ≡ false
 none_reached x w es h = any_none (λ e. has (bare e) w && is_front x e.label) es (λ e i q. h e i (front_yes x e.label (and_parts (has (bare e) w) (is_front x e.label) q).1))
 
 or_none : (t : Bool) → (t || false) ≡ t
@@ -172,21 +172,21 @@ same_map s t (w ∷ query) h = ap₂ (λ (a : Bool) (r : List Bool). a ∷ r) (h
 
 -- ---- the rows are what is reached
 
-pub row_there : (query : List Word) (y : Label) (f : Trees Named) (m : Rowed) → Formed name_label y f → In m (preorder (with_words query f)) → map (λ w. reaches m.entry.label w (preorder f)) query ≡ m.row
+pub row_there : (query : List Word) (y : Label) (f : Trees Named) (m : Rowed) → Formed name_label y f → Within m (preorder (with_words query f)) → map (λ w. reaches m.entry.label w (preorder f)) query ≡ m.row
 row_there query y none m u i = absurd i
 row_there query y (node e inner rest) m u i = by (some (row_of query e inner)) (row_there query e.label inner m u.1) (row_there query y rest m u.3) i
   where
-    later : (map (λ w. reaches m.entry.label w (preorder rest)) query ≡ m.row) → In m (preorder (with_words query rest)) → map (λ w. reaches m.entry.label w (e ∷ (preorder inner ++ preorder rest))) query ≡ m.row
+    later : (map (λ w. reaches m.entry.label w (preorder rest)) query ≡ m.row) → Within m (preorder (with_words query rest)) → map (λ w. reaches m.entry.label w (e ∷ (preorder inner ++ preorder rest))) query ≡ m.row
     later r i =
         same_map (λ w. reaches m.entry.label w (e ∷ (preorder inner ++ preorder rest))) (λ w. reaches m.entry.label w (preorder rest)) query
         (λ w. reached_rest y m.entry.label w e inner rest u (node_apart name_label e.label y rest m.entry u.3 u.2 (words_in query rest m i))) ∙ r
 
-    by : (t : Bool) → (In m (preorder (with_words query inner)) → map (λ w. reaches m.entry.label w (preorder inner)) query ≡ m.row) → (In m (preorder (with_words query rest)) → map (λ w. reaches m.entry.label w (preorder rest)) query ≡ m.row)
-        → In m (preorder (cond t (both_trees query e inner rest) (with_words query rest))) → map (λ w. reaches m.entry.label w (e ∷ (preorder inner ++ preorder rest))) query ≡ m.row
+    by : (t : Bool) → (Within m (preorder (with_words query inner)) → map (λ w. reaches m.entry.label w (preorder inner)) query ≡ m.row) → (Within m (preorder (with_words query rest)) → map (λ w. reaches m.entry.label w (preorder rest)) query ≡ m.row)
+        → Within m (preorder (cond t (both_trees query e inner rest) (with_words query rest))) → map (λ w. reaches m.entry.label w (e ∷ (preorder inner ++ preorder rest))) query ≡ m.row
     by true p q i = elim i [
       | inl k ↦ subst (λ (n : Rowed). map (λ w. reaches n.entry.label w (e ∷ (preorder inner ++ preorder rest))) query ≡ n.row) (sym k)
           (same_map (λ w. reaches e.label w (e ∷ (preorder inner ++ preorder rest))) (λ w. has (bare e) w || holds w (bares inner)) query (λ w. reached_first y w e inner rest u))
-      | inr k ↦ elim (in_cases m (preorder (with_words query inner)) (preorder (with_words query rest)) k) [
+      | inr k ↦ elim (within_joined m (preorder (with_words query inner)) (preorder (with_words query rest)) k) [
         | inl h ↦
             let n = node_under name_label e.label inner m.entry u.1 (words_in query inner m h) in
             same_map (λ w. reaches m.entry.label w (e ∷ (preorder inner ++ preorder rest))) (λ w. reaches m.entry.label w (preorder inner)) query

@@ -4,15 +4,11 @@ pub mod Answered
 pub mod Walks
 pub mod Piles
 pub mod Shows
-pub mod LinkFormed
-pub mod LinkFronts
-pub mod LinkTrees
 pub mod LinkForest
 pub mod LinkPaths
 pub mod MarkedFacts
 pub mod MarkedOpen
 pub mod FlatKept
-pub mod FlatRebuild
 pub mod CodedFacts
 pub mod CodedMasks
 pub mod LinkMasks

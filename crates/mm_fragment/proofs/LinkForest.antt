@@ -1,88 +1,41 @@
 -- The labels of a well-formed forest, and of the tree at a label.
 use Rattle.std.proofs.Common.{inl, inr, ◌≡◌, Bool, true, false, ◌||◌, cond, [], refl, ap, sym, subst, ◌∙◌, Some}
-use Rattle.std.specs.Prelude.{IsTrue}
-use Rattle.std.specs.Ordering.{int_eq}
-use Rattle.std.specs.Cmp.Lexicographic.{pointwise}
-use Rattle.std.proofs.lemmas.Slice.Eq.{slice_eq-Decides}
-use Rattle.std.proofs.lemmas.Bool.Decides.{Decides-int_eq}
 use Rattle.std.proofs.lemmas.Bool.{or_right}
 use Rattle.mm_label.specs.Label.{whole}
-use Rattle.mm_label.specs.Fronts.{Label, Front, Apart}
+use Rattle.mm_label.specs.Fronts.{Label, Front, Apart, Within}
 use Rattle.mm_tree.specs.Trees.{Trees, Tree, none, node, one, preorder}
 use Rattle.mm_tree.specs.Numbering.{Labelled}
-use Rattle.mm_tree.specs.Forests.{is_well_formed}
 use Rattle.mm_tree.specs.Edits as edits
 use Rattle.mm_tree.specs.Edits.{found, has_label}
-use Rattle.mm_tree.specs.Fragments.{named}
-use Rattle.mm_fragment.proofs.LinkFormed.{ApartFrom, Formed}
+use Rattle.mm_tree.specs.Formed.{Formed, node_label}
 use Rattle.mm_label.specs.Facts.Fronts.{front_refl}
-use Rattle.mm_fragment.proofs.LinkFronts.{child_below}
-use Rattle.mm_lists.specs.Formed.{RootsAfter, WellFormed}
-use Rattle.mm_lists.specs.Facts.Formed.{formed}
-use Rattle.mm_label.specs.Facts.Order.{same_label}
-use Rattle.mm_tree.specs.Search.{worded}
-use Rattle.mm_fragment.proofs.LinkTrees.{In, in_cases, in_first, in_second, node_under, node_apart}
-use Rattle.mm_fragment.proofs.FlatRebuild.{name_label}
+use Rattle.mm_label.specs.Facts.Order.{same_label, label_same, label_other}
+use Rattle.mm_tree.specs.Facts.Places.{node_under, node_apart}
+use Rattle.mm_label.specs.Facts.Members.{within_joined, within_first, within_second}
 
-abbrev pub node_label : Labelled → Label
-node_label e = e.label
-
--- ---- forests
-
-apart_of : (a : Label) (f : Trees Labelled) → RootsAfter a (worded f) → ApartFrom node_label a f
-apart_of a none r = tt
-apart_of a (node e inner rest) r = (r.0, apart_of a rest r.1)
-
-formed_of : (y : Label) (f : Trees Labelled) → whole y ≡ y → WellFormed y (worded f) → Formed node_label y f
-formed_of y none v g = tt
-formed_of y (node e inner rest) v g = (child_below y e.label v g.0, formed_of e.label inner g.0.is_whole g.1, apart_of e.label rest g.2, formed_of y rest v g.3)
-
-pub forest_formed : (forest : Trees Labelled) → IsTrue (is_well_formed forest) → Formed node_label [] forest
-forest_formed forest w = formed_of [] forest refl (formed forest w)
-
-named_apart : (a : Label) (f : Trees Labelled) → ApartFrom node_label a f → ApartFrom name_label a (named f)
-named_apart a none r = tt
-named_apart a (node e inner rest) r = (r.0, named_apart a rest r.1)
-
-pub named_formed : (y : Label) (f : Trees Labelled) → Formed node_label y f → Formed name_label y (named f)
-named_formed y none u = tt
-named_formed y (node e inner rest) u = (u.0, named_formed e.label inner u.1, named_apart e.label rest u.2, named_formed y rest u.3)
-
--- ---- the tree at a label
-
-label_same : (a b : Label) → a ≡ b → pointwise int_eq a b ≡ true
-label_same a b e = (slice_eq-Decides Decides-int_eq a b (pointwise int_eq a b) refl).1 e
-
-label_other : (a b : Label) → (a ≡ b → ⊥) → pointwise int_eq a b ≡ false
-label_other a b n = by (pointwise int_eq a b) refl
-  where
-    by : (t : Bool) → pointwise int_eq a b ≡ t → t ≡ false
-    by true e = absurd (n (same_label a b e))
-    by false e = refl
-
-has_in : (f : Trees Labelled) (e : Labelled) → In e (preorder f) → edits.has e.label f ≡ true
+has_in : (f : Trees Labelled) (e : Labelled) → Within e (preorder f) → edits.has e.label f ≡ true
 has_in none e w = absurd w
 has_in (node d inner rest) e w = elim w [
   | inl k ↦ ap (λ (t : Bool). t || (edits.has e.label inner || edits.has e.label rest)) (label_same d.label e.label (ap node_label (sym k)))
-  | inr k ↦ or_right (has_label e.label d) (edits.has e.label inner || edits.has e.label rest) (elim (in_cases e (preorder inner) (preorder rest) k) [
+  | inr k ↦ or_right (has_label e.label d) (edits.has e.label inner || edits.has e.label rest) (elim (within_joined e (preorder inner) (preorder rest) k) [
     | inl h ↦ ap (λ (t : Bool). t || edits.has e.label rest) (has_in inner e h)
     | inr h ↦ or_right (edits.has e.label inner) (edits.has e.label rest) (has_in rest e h)
   ])
 ]
 
-in_has : (f : Trees Labelled) (x : Label) → edits.has x f ≡ true → (e : Labelled) × In e (preorder f) × (e.label ≡ x)
+in_has : (f : Trees Labelled) (x : Label) → edits.has x f ≡ true → (e : Labelled) × Within e (preorder f) × (e.label ≡ x)
 in_has none x h = absurd cc
 in_has (node d inner rest) x h = by (has_label x d) refl (edits.has x inner) refl h (in_has inner x) (in_has rest x)
   where
     by : (a : Bool) → has_label x d ≡ a → (b : Bool) → edits.has x inner ≡ b → (a || (b || edits.has x rest)) ≡ true
-        → (edits.has x inner ≡ true → (e : Labelled) × In e (preorder inner) × (e.label ≡ x)) → (edits.has x rest ≡ true → (e : Labelled) × In e (preorder rest) × (e.label ≡ x))
-        → (e : Labelled) × In e (preorder (node d inner rest)) × (e.label ≡ x)
+        → (edits.has x inner ≡ true → (e : Labelled) × Within e (preorder inner) × (e.label ≡ x)) → (edits.has x rest ≡ true → (e : Labelled) × Within e (preorder rest) × (e.label ≡ x))
+        → (e : Labelled) × Within e (preorder (node d inner rest)) × (e.label ≡ x)
     by true p b q h i r = (d, inl refl, same_label d.label x p)
-    by false p true q h i r = let t = i q in (t.0, inr (in_first t.0 (preorder inner) (preorder rest) t.1), t.2)
-    by false p false q h i r = let t = r h in (t.0, inr (in_second t.0 (preorder inner) (preorder rest) t.1), t.2)
+    by false p true q h i r = let t = i q in (t.0, inr (within_first t.0 (preorder inner) (preorder rest) t.1), t.2)
+    by false p false q h i r = let t = r h in (t.0, inr (within_second t.0 (preorder inner) (preorder rest) t.1), t.2)
 
 -- each node is found by its label
-pub node_found : (y : Label) (f : Trees Labelled) (e : Labelled) → Formed node_label y f → In e (preorder f) → (inner : Trees Labelled) × (found e.label f ≡ Some (e, inner))
+pub node_found : (y : Label) (f : Trees Labelled) (e : Labelled) → Formed node_label y f → Within e (preorder f) → (inner : Trees Labelled) × (found e.label f ≡ Some (e, inner))
 node_found y none e u w = absurd w
 node_found y (node d inner rest) e u w = elim w [
   | inl k ↦ (
@@ -90,7 +43,7 @@ node_found y (node d inner rest) e u w = elim w [
     ap (λ (t : Bool). cond t (Some (d, inner)) (cond (edits.has e.label inner) (found e.label inner) (found e.label rest))) (label_same d.label e.label (ap node_label (sym k)))
         ∙ ap (λ (n : Labelled). Some (n, inner)) (sym k),
   )
-  | inr k ↦ elim (in_cases e (preorder inner) (preorder rest) k) [
+  | inr k ↦ elim (within_joined e (preorder inner) (preorder rest) k) [
     | inl h ↦
         let n = node_under node_label d.label inner e u.1 h in
         let t = node_found d.label inner e u.1 h in
@@ -113,29 +66,31 @@ node_found y (node d inner rest) e u w = elim w [
 pub record IsFound (x : Label) (f : Trees Labelled) (t : Tree Labelled) : Type 0 where
   pub is : t.0.label ≡ x
   pub up : Label
+  pub whole_up : whole up ≡ up
   pub formed : Formed node_label up (one t)
-  pub inside : (e : Labelled) → In e (preorder (one t)) → In e (preorder f)
+  pub inside : (e : Labelled) → Within e (preorder (one t)) → Within e (preorder f)
 
 some_same : (u v : Tree Labelled) → Some u ≡ Some v → u ≡ v
 some_same u v e = cc
 
-pub found_is : (y x : Label) (f : Trees Labelled) (t : Tree Labelled) → Formed node_label y f → found x f ≡ Some t → IsFound x f t
-found_is y x none t u h = absurd cc
-found_is y x (node e inner rest) t u h = by (has_label x e) refl (edits.has x inner) h (λ k. found_is e.label x inner t u.1 k) (λ k. found_is y x rest t u.3 k)
+pub found_is : (y x : Label) (f : Trees Labelled) (t : Tree Labelled) → whole y ≡ y → Formed node_label y f → found x f ≡ Some t → IsFound x f t
+found_is y x none t v u h = absurd cc
+found_is y x (node e inner rest) t v u h = by (has_label x e) refl (edits.has x inner) h (λ k. found_is e.label x inner t u.0.is_whole u.1 k) (λ k. found_is y x rest t v u.3 k)
   where
-    inner_in : (d : Labelled) → In d (preorder inner) → In d (preorder (node e inner rest))
-    inner_in d w = inr (in_first d (preorder inner) (preorder rest) w)
+    inner_in : (d : Labelled) → Within d (preorder inner) → Within d (preorder (node e inner rest))
+    inner_in d w = inr (within_first d (preorder inner) (preorder rest) w)
 
     here : has_label x e ≡ true → IsFound x (node e inner rest) (e, inner)
     here k = record {
       is = same_label e.label x k;
       up = y;
+      whole_up = v;
       formed = (u.0, u.1, tt, tt);
-      inside = λ d w. elim w [ inl q ↦ inl q | inr q ↦ elim (in_cases d (preorder inner) [] q) [ inl z ↦ inner_in d z | inr z ↦ absurd z ] ];
+      inside = λ d w. elim w [ inl q ↦ inl q | inr q ↦ elim (within_joined d (preorder inner) [] q) [ inl z ↦ inner_in d z | inr z ↦ absurd z ] ];
     }
 
     by : (a : Bool) → has_label x e ≡ a → (b : Bool) → cond a (Some (e, inner)) (cond b (found x inner) (found x rest)) ≡ Some t → (found x inner ≡ Some t → IsFound x inner t) → (found x rest ≡ Some t → IsFound x rest t)
         → IsFound x (node e inner rest) t
     by true k b h p q = subst (IsFound x (node e inner rest)) (some_same (e, inner) t h) (here k)
-    by false k true h p q = let r = p h in record { is = r.is; up = r.up; formed = r.formed; inside = λ d w. inner_in d (r.inside d w) }
-    by false k false h p q = let r = q h in record { is = r.is; up = r.up; formed = r.formed; inside = λ d w. inr (in_second d (preorder inner) (preorder rest) (r.inside d w)) }
+    by false k true h p q = let r = p h in record { is = r.is; up = r.up; whole_up = r.whole_up; formed = r.formed; inside = λ d w. inner_in d (r.inside d w) }
+    by false k false h p q = let r = q h in record { is = r.is; up = r.up; whole_up = r.whole_up; formed = r.formed; inside = λ d w. inr (within_second d (preorder inner) (preorder rest) (r.inside d w)) }

@@ -1,51 +1,39 @@
 -- What is kept of an answer's masks are the root and the nodes of its fragment.
-use Rattle.std.proofs.Common.{inl, inr, ◌≡◌, ℕ, Bool, true, false, not, ◌&&◌, ◌||◌, cond, List, [], ◌∷◌, ◌++◌, map, refl, ap, ap₂, sym, subst, ◌∙◌, length, nat_eq, bit_and, eq-eqb, append-nil}
+use Rattle.std.proofs.Common.{inl, inr, ◌≡◌, ℕ, Bool, true, false, not, ◌&&◌, ◌||◌, cond, List, [], ◌∷◌, map, refl, ap, ap₂, sym, subst, ◌∙◌, length, nat_eq, bit_and, eq-eqb, append-nil}
 use Rattle.std.specs.Prelude.{◌↔◌}
 use Rattle.mm_match.specs.declared.mark.Mark.{Mark}
-use Rattle.mm_label.specs.Fronts.{Label, Front, Within, Ascends, Meets}
-use Rattle.mm_match.specs.Marks.{labels, InMarks, IsOnPath, mask_at, kept}
+use Rattle.mm_label.specs.Label.{whole}
+use Rattle.mm_label.specs.Fronts.{Label, Front, Within, Lt, Ascends, Meets}
+use Rattle.mm_match.specs.Marks.{labels, IsOnPath, mask_at, kept}
 use Rattle.mm_tree.specs.Trees.{Trees, Tree, none, node, one, preorder}
 use Rattle.mm_tree.specs.Search.{has}
 use Rattle.mm_tree.specs.Fragments.{Named, bare}
-use Rattle.mm_fragment.proofs.LinkFormed.{Formed}
-use Rattle.mm_fragment.specs.Marked.{Rowed, marked, rows_in, pruned, number, mark_of, coded}
+use Rattle.mm_tree.specs.Formed.{Formed, name_label}
+use Rattle.mm_fragment.specs.Inside.Marked.{Rowed, marked, rows_in, pruned, mask_of, mark_of, coded}
 use Rattle.mm_fragment.specs.Matching.{open_nodes, matches_of}
-use Rattle.mm_label.specs.Facts.Fronts.{front_refl, front_antisym, le_antisym}
-use Rattle.mm_fragment.proofs.LinkTrees.{In, within_in, in_within, preorder_each, preorder_ascends, node_under, node_whole}
+use Rattle.mm_label.specs.Facts.Fronts.{front_refl, front_antisym, not_front}
+use Rattle.mm_tree.specs.Facts.Places.{preorder_each, preorder_ascends, node_under, node_whole}
+use Rattle.mm_label.specs.Facts.Lists.{lt_once}
+use Rattle.mm_label.specs.Facts.Ordered.{ordered_same}
+use Rattle.mm_label.specs.Facts.Members.{within_in, in_within}
 use Rattle.mm_fragment.proofs.FlatKept.{at, tops, outdone, thinned, kept_preorder}
-use Rattle.mm_fragment.proofs.FlatRebuild.{name_label, not_front}
 use Rattle.mm_fragment.proofs.CodedFacts.{marked_sized, coded_pruned}
 use Rattle.mm_fragment.proofs.CodedMasks.{reaches, mask_is, row_there}
-use Rattle.mm_fragment.proofs.MarkedOpen.{cleared, cleared_formed, outside_is, marked_is, marked_formed, words_in, each_formed}
+use Rattle.mm_fragment.proofs.MarkedOpen.{cleared, cleared_formed, outside_is, marked_is, marked_formed, words_in}
+use Rattle.mm_tree.specs.Facts.Subforests.{each_formed}
 use Rattle.mm_fragment.proofs.LinkPaths.{Word, HasMatch, match_of, match_meets, match_in, words_match, path}
 
 -- ---- labels and masks tell an ascending list of marks
 
-labels_map : (ms : List Mark) → labels ms ≡ map at ms
-labels_map [] = refl
-labels_map (m ∷ ms) = ap (λ (r : List Label). m.label ∷ r) (labels_map ms)
-
-first_same : (r s : Label) (rs ss : List Label) → Ascends (r ∷ rs) → Ascends (s ∷ ss) → Within r (s ∷ ss) → Within s (r ∷ rs) → r ≡ s
-first_same r s rs ss g h p q = elim p [
-  | inl e ↦ e
-  | inr k ↦ elim q [ inl e ↦ sym e | inr m ↦ le_antisym r s (g.0 s m).0 (h.0 r k).0 ]
-]
-
-rest_within : (x y : Label) (r s : List Label) → x ≡ y → Ascends (x ∷ r) → ((u : Label) → Within u (x ∷ r) → Within u (y ∷ s)) → (u : Label) → Within u r → Within u s
-rest_within x y r s e g h u w = elim (h u (inr w)) [
-  | inl k ↦ absurd ((g.0 u w).1 (e ∙ sym k))
-  | inr k ↦ k
-]
-
-same_marks : (mask : Label → ℕ) (r s : List Mark) → Ascends (labels r) → Ascends (labels s) → ((u : Label) → Within u (labels r) → Within u (labels s)) → ((u : Label) → Within u (labels s) → Within u (labels r))
-    → ((m : Mark) → InMarks m r → m.mask ≡ mask m.label) → ((m : Mark) → InMarks m s → m.mask ≡ mask m.label) → r ≡ s
-same_marks mask [] [] g h p q a b = refl
-same_marks mask [] (y ∷ s) g h p q a b = absurd (q y.label (inl refl))
-same_marks mask (x ∷ r) [] g h p q a b = absurd (p x.label (inl refl))
-same_marks mask (x ∷ r) (y ∷ s) g h p q a b =
-    let first = first_same x.label y.label (labels r) (labels s) g h (p x.label (inl refl)) (q y.label (inl refl)) in
+same_marks : (mask : Label → ℕ) (r s : List Mark) → labels r ≡ labels s → ((m : Mark) → Within m r → m.mask ≡ mask m.label) → ((m : Mark) → Within m s → m.mask ≡ mask m.label) → r ≡ s
+same_marks mask [] [] e a b = refl
+same_marks mask [] (y ∷ s) e a b = absurd cc
+same_marks mask (x ∷ r) [] e a b = absurd cc
+same_marks mask (x ∷ r) (y ∷ s) e a b =
+    let first : x.label ≡ y.label = cc in
+    let rest : labels r ≡ labels s = cc in
     let words : x.mask ≡ y.mask = a x (inl refl) ∙ (ap mask first ∙ sym (b y (inl refl))) in
-    let later = same_marks mask r s g.1 h.1 (rest_within x.label y.label (labels r) (labels s) first g p) (rest_within y.label x.label (labels s) (labels r) (sym first) h q) (λ m i. a m (inr i)) (λ m i. b m (inr i)) in
+    let later = same_marks mask r s rest (λ m i. a m (inr i)) (λ m i. b m (inr i)) in
     λ j. record { label = first j; mask = words j } ∷ later j
 
 -- ---- the marks of an answer, as `masks` gives them
@@ -54,7 +42,7 @@ same_marks mask (x ∷ r) (y ∷ s) g h p q a b =
 pub record AreMasks (root : Label) (matches r : List Mark) : Type 0 where
   pub ordered : Ascends (labels r)
   pub on_path : (x : Label) → Within x (labels r) ↔ IsOnPath root matches x
-  pub words : (m : Mark) → InMarks m r → m.mask ≡ mask_at m.label matches
+  pub words : (m : Mark) → Within m r → m.mask ≡ mask_at m.label matches
 
 abbrev pub matches_at : List Word → Tree Named → List Mark
 matches_at query t = matches_of 1 query (open_nodes query t)
@@ -66,24 +54,20 @@ root_mark query t = record { label = t.0.label; mask = mask_at t.0.label (matche
 abbrev pub marked_tree : List Word → Tree Named → Trees Mark
 marked_tree query t = node (root_mark query t) (coded (marked query t.1)) none
 
-in_marks : (m : Mark) (ms : List Mark) → InMarks m ms → In m ms
-in_marks m [] w = absurd w
-in_marks m (x ∷ ms) w = elim w [ inl e ↦ inl e | inr k ↦ inr (in_marks m ms k) ]
-
-in_map : {A B : Type 0} (f : A → B) (b : B) (xs : List A) → In b (map f xs) → (a : A) × In a xs × (b ≡ f a)
+in_map : {A B : Type 0} (f : A → B) (b : B) (xs : List A) → Within b (map f xs) → (a : A) × Within a xs × (b ≡ f a)
 in_map f b [] w = absurd w
 in_map f b (x ∷ xs) w = elim w [ inl e ↦ (x, inl refl, e) | inr k ↦ let t = in_map f b xs k in (t.0, inr t.1, t.2) ]
 
-map_in : {A B : Type 0} (f : A → B) (a : A) (xs : List A) → In a xs → In (f a) (map f xs)
+map_in : {A B : Type 0} (f : A → B) (a : A) (xs : List A) → Within a xs → Within (f a) (map f xs)
 map_in f a [] w = absurd w
 map_in f a (x ∷ xs) w = elim w [ inl e ↦ inl (ap f e) | inr k ↦ inr (map_in f a xs k) ]
 
 -- a node of the marked ones, as a mark and back
-of_coded : (f : Trees Rowed) (m : Mark) → In m (preorder (coded f)) → (k : Rowed) × In k (preorder f) × (m ≡ mark_of k)
-of_coded f m w = in_map mark_of m (preorder f) (subst (In m) (preorder_each mark_of f) w)
+of_coded : (f : Trees Rowed) (m : Mark) → Within m (preorder (coded f)) → (k : Rowed) × Within k (preorder f) × (m ≡ mark_of k)
+of_coded f m w = in_map mark_of m (preorder f) (subst (Within m) (preorder_each mark_of f) w)
 
-to_coded : (f : Trees Rowed) (k : Rowed) → In k (preorder f) → In (mark_of k) (preorder (coded f))
-to_coded f k w = subst (In (mark_of k)) (sym (preorder_each mark_of f)) (map_in mark_of k (preorder f) w)
+to_coded : (f : Trees Rowed) (k : Rowed) → Within k (preorder f) → Within (mark_of k) (preorder (coded f))
+to_coded f k w = subst (Within (mark_of k)) (sym (preorder_each mark_of f)) (map_in mark_of k (preorder f) w)
 
 coded_formed : (query : List Word) (y : Label) (f : Trees Named) → Formed name_label y f → Formed at y (coded (marked query f))
 coded_formed query y f u = each_formed mark_of at y (marked query f) (marked_formed query y f u)
@@ -94,7 +78,7 @@ tree_formed query y t u = (u.0, coded_formed query t.0.label t.1 u.1, tt, tt)
 open_is : (query : List Word) (t : Tree Named) → open_nodes query t ≡ t.0 ∷ preorder (cleared query t.1)
 open_is query t = ap (λ (r : List Named). t.0 ∷ r) (outside_is query t.1)
 
-pub open_below : (query : List Word) (y : Label) (t : Tree Named) (e : Named) → Formed name_label y (one t) → In e (t.0 ∷ preorder (cleared query t.1)) → Front t.0.label e.label
+pub open_below : (query : List Word) (y : Label) (t : Tree Named) (e : Named) → Formed name_label y (one t) → Within e (t.0 ∷ preorder (cleared query t.1)) → Front t.0.label e.label
 open_below query y t e u w = elim w [
   | inl h ↦ subst (λ (d : Named). Front t.0.label d.label) (sym h) (front_refl t.0.label)
   | inr h ↦ (node_under name_label t.0.label (cleared query t.1) e (cleared_formed query t.0.label t.1 u.1) h).0
@@ -111,12 +95,12 @@ tree_path : (query : List Word) (y : Label) (t : Tree Named) (x : Label) → For
 tree_path query y t x u some w =
     let f = marked_tree query t in
     let g = tree_formed query y t u in
-    let k = within_in at x (preorder f) (subst (Within x) (labels_map (preorder f)) w) in
+    let k = within_in at x (preorder f) w in
     elim k.1 [
       | inl e ↦ subst (IsOnPath t.0.label (matches_at query t)) (sym (k.2 ∙ ap at e)) (record { is_whole = u.0.is_whole; below = front_refl t.0.label; above = some })
       | inr h ↦
-          let c = of_coded (marked query t.1) k.0 (subst (In k.0) (append-nil (preorder (coded (marked query t.1)))) h) in
-          let i = subst (λ (ts : Trees Rowed). In c.0 (preorder ts)) (marked_is query t.1) c.1 in
+          let c = of_coded (marked query t.1) k.0 (subst (Within k.0) (append-nil (preorder (coded (marked query t.1)))) h) in
+          let i = subst (λ (ts : Trees Rowed). Within c.0 (preorder ts)) (marked_is query t.1) c.1 in
           let v = cleared_formed query t.0.label t.1 u.1 in
           let j = words_in query (cleared query t.1) c.0 i in
           let m = words_match query t.0.label (cleared query t.1) c.0 v i in
@@ -136,30 +120,30 @@ path_tree query y t x u p =
       | inr h ↦ elim (path query t.0.label x (cleared query t.1) m.word m.holder v p.is_whole m.asked h m.holds m.low) [
         | inl f ↦ top f
         | inr s ↦
-            let i = subst (λ (ts : Trees Rowed). In s.0 (preorder ts)) (sym (marked_is query t.1)) s.1 in
-            listed (mark_of s.0) s.2 (inr (subst (In (mark_of s.0)) (sym (append-nil (preorder (coded (marked query t.1))))) (to_coded (marked query t.1) s.0 i)))
+            let i = subst (λ (ts : Trees Rowed). Within s.0 (preorder ts)) (sym (marked_is query t.1)) s.1 in
+            listed (mark_of s.0) s.2 (inr (subst (Within (mark_of s.0)) (sym (append-nil (preorder (coded (marked query t.1))))) (to_coded (marked query t.1) s.0 i)))
       ]
     ]
   where
-    listed : (m : Mark) → x ≡ m.label → In m (preorder (marked_tree query t)) → Within x (labels (preorder (marked_tree query t)))
-    listed m e i = subst (Within x) (sym (labels_map (preorder (marked_tree query t)))) (subst (λ (z : Label). Within z (map at (preorder (marked_tree query t)))) (sym e) (in_within at m (preorder (marked_tree query t)) i))
+    listed : (m : Mark) → x ≡ m.label → Within m (preorder (marked_tree query t)) → Within x (labels (preorder (marked_tree query t)))
+    listed m e i = subst (λ (z : Label). Within z (map at (preorder (marked_tree query t)))) (sym e) (in_within at m (preorder (marked_tree query t)) i)
 
     top : Front x t.0.label → Within x (labels (preorder (marked_tree query t)))
     top f = inl (front_antisym x t.0.label f p.below)
 
 -- a marked node's mask is its row's
-tree_mask : (query : List Word) (y : Label) (t : Tree Named) (m : Mark) → Formed name_label y (one t) → InMarks m (preorder (marked_tree query t)) → m.mask ≡ mask_at m.label (matches_at query t)
+tree_mask : (query : List Word) (y : Label) (t : Tree Named) (m : Mark) → Formed name_label y (one t) → Within m (preorder (marked_tree query t)) → m.mask ≡ mask_at m.label (matches_at query t)
 tree_mask query y t m u w = elim w [
   | inl e ↦ subst (λ (k : Mark). k.mask ≡ mask_at k.label (matches_at query t)) (sym e) refl
   | inr h ↦
-      let c = of_coded (marked query t.1) m (subst (In m) (append-nil (preorder (coded (marked query t.1)))) (in_marks m (preorder (coded (marked query t.1)) ++ []) h)) in
-      let i = subst (λ (ts : Trees Rowed). In c.0 (preorder ts)) (marked_is query t.1) c.1 in
+      let c = of_coded (marked query t.1) m (subst (Within m) (append-nil (preorder (coded (marked query t.1)))) h) in
+      let i = subst (λ (ts : Trees Rowed). Within c.0 (preorder ts)) (marked_is query t.1) c.1 in
       let v = cleared_formed query t.0.label t.1 u.1 in
       let n = node_under name_label t.0.label (cleared query t.1) c.0.entry v (words_in query (cleared query t.1) c.0 i) in
       subst (λ (k : Mark). k.mask ≡ mask_at k.label (matches_at query t)) (sym c.2) (sym (
       mask_is c.0.entry.label query (open_nodes query t)
-      ∙ (ap (λ (es : List Named). number (map (λ w. reaches c.0.entry.label w es) query)) (open_is query t)
-      ∙ ap number (without_root c.0.entry.label (λ f. n.1 (front_antisym c.0.entry.label t.0.label f n.0)) query ∙ row_there query t.0.label (cleared query t.1) c.0 v i))))
+      ∙ (ap (λ (es : List Named). mask_of (map (λ w. reaches c.0.entry.label w es) query)) (open_is query t)
+      ∙ ap mask_of (without_root c.0.entry.label (λ f. n.1 (front_antisym c.0.entry.label t.0.label f n.0)) query ∙ row_there query t.0.label (cleared query t.1) c.0 v i))))
 ]
   where
     and_false : (a b : Bool) → ((a && false) || b) ≡ b
@@ -177,9 +161,9 @@ tree_mask query y t m u w = elim w [
 
 pub masks_are : (query : List Word) (y : Label) (t : Tree Named) (r : List Mark) → Formed name_label y (one t) → Meets t.0.label (labels (matches_at query t)) → AreMasks t.0.label (matches_at query t) r → r ≡ preorder (marked_tree query t)
 masks_are query y t r u some m =
-    same_marks (λ x. mask_at x (matches_at query t)) r (preorder (marked_tree query t)) m.ordered
-    (subst Ascends (sym (labels_map (preorder (marked_tree query t)))) (preorder_ascends at y (marked_tree query t) (tree_formed query y t u)))
-    (λ x w. path_tree query y t x u ((m.on_path x).0 w)) (λ x w. (m.on_path x).1 (tree_path query y t x u some w))
+    same_marks (λ x. mask_at x (matches_at query t)) r (preorder (marked_tree query t))
+    (ordered_same Lt (labels r) (labels (preorder (marked_tree query t))) lt_once m.ordered (preorder_ascends at y (marked_tree query t) (tree_formed query y t u))
+    (λ x w. path_tree query y t x u ((m.on_path x).0 w)) (λ x w. (m.on_path x).1 (tree_path query y t x u some w)))
     m.words (λ k i. tree_mask query y t k u i)
 
 not_outdone : (m : Mark) → outdone m (m ∷ []) ≡ false
@@ -190,12 +174,12 @@ not_outdone m = by (nat_eq (bit_and m.mask m.mask) m.mask) (nat_eq m.mask m.mask
     by false true e = refl
     by a false e = absurd cc
 
-pub kept_are : (query : List Word) (y : Label) (t : Tree Named) (r : List Mark) → Formed name_label y (one t) → Meets t.0.label (labels (matches_at query t)) → AreMasks t.0.label (matches_at query t) r
+pub kept_are : (query : List Word) (y : Label) (t : Tree Named) (r : List Mark) → whole y ≡ y → Formed name_label y (one t) → Meets t.0.label (labels (matches_at query t)) → AreMasks t.0.label (matches_at query t) r
     → kept r ≡ root_mark query t ∷ preorder (coded (pruned (rows_in (marked query t.1)) (marked query t.1)))
-kept_are query y t r u some m =
+kept_are query y t r v u some m =
     let f = marked query t.1 in
     let z = marked_sized query t.1 in
     ap kept (masks_are query y t r u some m)
-    ∙ (kept_preorder y (marked_tree query t) (tree_formed query y t u)
+    ∙ (kept_preorder y (marked_tree query t) v (tree_formed query y t u)
     ∙ (ap (λ (b : Bool). preorder (cond b none (node (root_mark query t) (thinned (tops (coded f)) (coded f)) none))) (not_outdone (root_mark query t))
     ∙ ap (λ (r : List Mark). root_mark query t ∷ r) (append-nil (preorder (thinned (tops (coded f)) (coded f))) ∙ ap (λ (ts : Trees Mark). preorder ts) (coded_pruned (length query) f f z z))))

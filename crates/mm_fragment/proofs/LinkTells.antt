@@ -9,29 +9,24 @@ use Rattle.mm_tree.specs.Numbering.{Labelled}
 use Rattle.mm_tree.specs.Edits as edits
 use Rattle.mm_tree.specs.Edits.{found, has_label}
 use Rattle.mm_tree.specs.Fragments.{named}
-use Rattle.mm_tree.specs.Search.{Worded, worded, has, holds, is_full, slca}
+use Rattle.mm_tree.specs.Search.{Worded, worded, has, holds, is_full, slca, worded_as}
 use Rattle.mm_tree.specs.Elca.{elca}
 use Rattle.mm_tree.specs.Smallest.{full_nodes, AnswersAreSmallest, FullNodesHaveAnswers}
 use Rattle.mm_tree.specs.Owners.{SmallestAreExclusive, ExclusiveAreFull}
-use Rattle.mm_fragment.proofs.LinkFormed.{ApartFrom, Formed}
+use Rattle.mm_tree.specs.Formed.{Formed, node_label}
+use Rattle.mm_tree.specs.Facts.Nodes.{Stands, stands_under, stands_after}
 use Rattle.mm_fragment.specs.Matching.{Reaches, TellsAll}
 use Rattle.mm_fragment.specs.Telling.{SmallestTell, ExclusiveTell}
 use Rattle.mm_label.specs.Facts.Lists.{own_cases, own_of}
-use Rattle.mm_label.specs.Facts.Members.{contains_of, within_of, within_joined}
-use Rattle.mm_label.specs.Facts.Order.{front_of}
-use Rattle.mm_fragment.proofs.Subtree.{apart_common, within_left, within_right, worded_as}
+use Rattle.mm_label.specs.Facts.Members.{contains_of, within_of, within_joined, within_first, within_second}
+use Rattle.mm_fragment.proofs.Subtree.{apart_common}
 use Rattle.mm_fragment.proofs.Open.{bares_named}
 use Rattle.mm_label.specs.Facts.Fronts.{front_refl, front_trans, front_antisym}
-use Rattle.mm_fragment.proofs.LinkForest.{node_label, forest_formed}
+use Rattle.mm_tree.specs.Facts.Formed.{formed}
 use Rattle.mm_fragment.proofs.LinkPaths.{Word}
 use Rattle.mm_fragment.proofs.MarkedOpen.{full_above}
 
 -- ---- nodes with their children
-
--- the node with these children is one of the trees' nodes
-abbrev pub Stands : Labelled → Trees Labelled → Trees Labelled → Type 0
-Stands d low none = ⊥
-Stands d low (node e inner rest) = ((d ≡ e) × (low ≡ inner)) ⊎ (Stands d low inner ⊎ Stands d low rest)
 
 stands_below : (d e : Labelled) (low inner f : Trees Labelled) → Stands d low inner → Stands e inner f → Stands d low f
 stands_below d e low inner none s h = absurd h
@@ -40,28 +35,6 @@ stands_below d e low inner (node g i r) s h = elim h [
   | inr k ↦ elim k [
     | inl q ↦ inr (inl (stands_below d e low inner i s q))
     | inr q ↦ inr (inr (stands_below d e low inner r s q))
-  ]
-]
-
-stands_under : (y : Label) (f : Trees Labelled) (d : Labelled) (low : Trees Labelled) → Formed node_label y f → Stands d low f → Front y d.label × (d.label ≡ y → ⊥)
-stands_under y none d low u h = absurd h
-stands_under y (node e inner rest) d low u h = elim h [
-  | inl k ↦ subst (λ (n : Labelled). Front y n.label × (n.label ≡ y → ⊥)) (sym k.0) (u.0.below, u.0.longer)
-  | inr k ↦ elim k [
-    | inl q ↦
-        let r = stands_under e.label inner d low u.1 q in
-        (front_trans y e.label d.label u.0.below r.0, λ z. r.1 (front_antisym d.label e.label (subst (λ (x : Label). Front x e.label) (sym z) u.0.below) r.0))
-    | inr q ↦ stands_under y rest d low u.3 q
-  ]
-]
-
-stands_apart : (a y : Label) (f : Trees Labelled) (d : Labelled) (low : Trees Labelled) → Formed node_label y f → ApartFrom node_label a f → Stands d low f → Front a d.label → ⊥
-stands_apart a y none d low u r h g = absurd h
-stands_apart a y (node e inner rest) d low u r h g = elim h [
-  | inl k ↦ r.0.1 (subst (λ (n : Labelled). Front a n.label) k.0 g)
-  | inr k ↦ elim k [
-    | inl q ↦ apart_common a e.label d.label r.0 g (stands_under e.label inner d low u.1 q).0
-    | inr q ↦ stands_apart a y rest d low u.3 r.1 q g
   ]
 ]
 
@@ -76,41 +49,31 @@ stands_inside y (node n i r) d e low inner u s h g = elim h [
     | inl q ↦ inl (q.0 ∙ sym k.0, q.1 ∙ sym k.1)
     | inr q ↦ elim q [
       | inl z ↦ inr (subst (Stands d low) (sym k.1) z)
-      | inr z ↦ absurd (stands_apart n.label y r d low u.3 u.2 z (subst (λ (m : Labelled). Front m.label d.label) k.0 g))
+      | inr z ↦ absurd ((stands_after node_label n.label y r d low u.3 u.2 z).1 (subst (λ (m : Labelled). Front m.label d.label) k.0 g))
     ]
   ]
   | inr k ↦ elim k [
     | inl q ↦
-        let b = stands_under n.label i e inner u.1 q in
+        let b = stands_under node_label n.label i e inner u.1 q in
         elim s [
           | inl z ↦ absurd (b.1 (front_antisym e.label n.label (subst (λ (m : Labelled). Front e.label m.label) z.0 g) b.0))
           | inr z ↦ elim z [
             | inl v ↦ stands_inside n.label i d e low inner u.1 v q g
-            | inr v ↦ absurd (stands_apart n.label y r d low u.3 u.2 v (front_trans n.label e.label d.label b.0 g))
+            | inr v ↦ absurd ((stands_after node_label n.label y r d low u.3 u.2 v).1 (front_trans n.label e.label d.label b.0 g))
           ]
         ]
     | inr q ↦ elim s [
       | inl z ↦ absurd (passed q n.label (subst (λ (m : Labelled). Front e.label m.label) z.0 g) (front_refl n.label))
       | inr z ↦ elim z [
-        | inl v ↦ absurd (passed q d.label g (stands_under n.label i d low u.1 v).0)
+        | inl v ↦ absurd (passed q d.label g (stands_under node_label n.label i d low u.1 v).0)
         | inr v ↦ stands_inside y r d e low inner u.3 v q g
       ]
     ]
   ]
 ]
   where
-    apart : (f : Trees Labelled) → Formed node_label y f → ApartFrom node_label n.label f → Stands e inner f → (x : Label) → Front e.label x → Front n.label x → ⊥
-    apart none v p w x a b = w
-    apart (node m low later) v p w x a b = elim w [
-      | inl k ↦ apart_common n.label m.label x p.0 b (subst (λ (j : Labelled). Front j.label x) k.0 a)
-      | inr k ↦ elim k [
-        | inl z ↦ apart_common n.label m.label x p.0 b (front_trans m.label e.label x (stands_under m.label low e inner v.1 z).0 a)
-        | inr z ↦ apart later v.3 p.1 z x a b
-      ]
-    ]
-
     passed : Stands e inner r → (x : Label) → Front e.label x → Front n.label x → ⊥
-    passed q x a b = apart r u.3 u.2 q x a b
+    passed q x a b = apart_common n.label e.label x (stands_after node_label n.label y r e inner u.3 u.2 q) b a
 
 -- ---- full nodes
 
@@ -140,11 +103,11 @@ inside_full query d e low inner s h = elim s [
 full_listed : (query : List Word) (f : Trees Labelled) (d : Labelled) (low : Trees Labelled) → Stands d low f → is_full query (worded_as d) (worded low) ≡ true → Within d.label (full_nodes query (worded f))
 full_listed query none d low s h = absurd s
 full_listed query (node e inner rest) d low s h = elim s [
-  | inl k ↦ within_left d.label (mine e inner) (full_nodes query (worded inner) ++ full_nodes query (worded rest))
+  | inl k ↦ within_first d.label (mine e inner) (full_nodes query (worded inner) ++ full_nodes query (worded rest))
       (subst (λ (x : Label). Within x (mine e inner)) (sym (ap node_label k.0)) (own_of (is_full query (worded_as e) (worded inner)) e.label e.label (inside_full query d e low inner (inl k) h) refl))
-  | inr k ↦ within_right d.label (mine e inner) (full_nodes query (worded inner) ++ full_nodes query (worded rest)) (elim k [
-    | inl q ↦ within_left d.label (full_nodes query (worded inner)) (full_nodes query (worded rest)) (full_listed query inner d low q h)
-    | inr q ↦ within_right d.label (full_nodes query (worded inner)) (full_nodes query (worded rest)) (full_listed query rest d low q h)
+  | inr k ↦ within_second d.label (mine e inner) (full_nodes query (worded inner) ++ full_nodes query (worded rest)) (elim k [
+    | inl q ↦ within_first d.label (full_nodes query (worded inner)) (full_nodes query (worded rest)) (full_listed query inner d low q h)
+    | inr q ↦ within_second d.label (full_nodes query (worded inner)) (full_nodes query (worded rest)) (full_listed query rest d low q h)
   ])
 ]
   where
@@ -199,7 +162,7 @@ answers_tell query f answers u reached full e inner s = (
   λ h. reached e.label (contains_of e.label (full_nodes query (worded f)) (full_listed query f e inner s h)),
   λ r.
       let k = listed_full query r.0 f (within_of r.0 (full_nodes query (worded f)) (full r.0 r.1)) in
-      inside_full query k.entry e k.low inner (stands_inside [] f k.entry e k.low inner u k.stands s (subst (Front e.label) k.is (front_of e.label r.0 r.2))) k.full,
+      inside_full query k.entry e k.low inner (stands_inside [] f k.entry e k.low inner u k.stands s (subst (Front e.label) k.is r.2)) k.full,
 )
 
 below_root : (x : Label) (f : Trees Labelled) (t : Tree Labelled) → found x f ≡ Some t → (e : Labelled) (inner : Trees Labelled) → Stands e inner t.1 → Stands e inner f
@@ -207,14 +170,14 @@ below_root x f t h e inner s = stands_below e t.0 inner t.1 f s (found_stands x 
 
 pub smallest_tell : AnswersAreSmallest → FullNodesHaveAnswers → SmallestTell
 smallest_tell are have query f w x t h =
-    let tell = answers_tell query f (slca query (worded f)) (forest_formed f w)
+    let tell = answers_tell query f (slca query (worded f)) (formed f w)
     (λ z c. let a = have query f w z c in (a.answer, a.found, a.below))
     (λ z c. ((are query f w z).0 c).full) in
     all_tell query (slca query (worded f)) t.1 (λ e inner s. tell e inner (below_root x f t h e inner s))
 
 pub exclusive_tell : FullNodesHaveAnswers → SmallestAreExclusive → ExclusiveAreFull → ExclusiveTell
 exclusive_tell have exclusive full query f w x t h =
-    let tell = answers_tell query f (elca query (worded f)) (forest_formed f w)
+    let tell = answers_tell query f (elca query (worded f)) (formed f w)
     (λ z c. let a = have query f w z c in (a.answer, exclusive query f a.answer a.found, a.below))
     (λ z c. full query f z c) in
     all_tell query (elca query (worded f)) t.1 (λ e inner s. tell e inner (below_root x f t h e inner s))

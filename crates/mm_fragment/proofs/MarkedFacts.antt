@@ -4,7 +4,7 @@ use Rattle.std.specs.List.{list_any}
 use Rattle.mm_tree.specs.Trees.{Trees, none, node}
 use Rattle.mm_tree.specs.Search.{is_full}
 use Rattle.mm_tree.specs.Fragments.{Named, bare, bares, row_of, some, subset, less, rows_of, shown, contributors}
-use Rattle.mm_fragment.specs.Marked.{marked, rows_in, pruned, show_all}
+use Rattle.mm_fragment.specs.Inside.Marked.{marked, rows_in, pruned, show_all}
 
 -- a row without a word is within each row, and so it is above none
 subset_none : (row other : List Bool) → some row ≡ false → subset row other ≡ true

@@ -8,23 +8,23 @@ use Rattle.mm_lists.specs.Full.{Word, Rising}
 use Rattle.mm_label.specs.Label.{whole}
 use Rattle.mm_tree.specs.Trees.{Trees, none, node, Tree, preorder}
 use Rattle.mm_tree.specs.Numbering.{Labelled}
-use Rattle.mm_tree.specs.Search.{Worded, has, is_full, list_of, worded}
+use Rattle.mm_tree.specs.Search.{Worded, has, is_full, list_of, worded, worded_as}
 use Rattle.mm_tree.specs.Fragments.{Named, named, named_as, bare, bares}
 use Rattle.mm_fragment.specs.Matching.{Reaches, TellsAll, outside_full}
 use Rattle.mm_fragment.specs.Bound.{full_count}
-use Rattle.mm_fragment.specs.Children.{IsFullChild}
-use Rattle.mm_fragment.specs.Gathering.{full_list, open_list, IsAsked}
+use Rattle.mm_fragment.specs.Inside.Children.{IsFullChild}
+use Rattle.mm_fragment.specs.Inside.Gathering.{full_list, open_list, IsAsked}
 use Rattle.mm_fragment.specs.Showing.{named_in}
 use Rattle.mm_lists.specs.Formed.{WellFormed}
 use Rattle.mm_label.specs.Facts.Fronts.{front_refl, front_antisym, below_apart}
 use Rattle.mm_lists.specs.Facts.Below.{NodeOf, node_below, node_after}
 use Rattle.mm_label.specs.Facts.Lists.{apart_lt, lt_below, own_cases, own_of}
 use Rattle.mm_label.specs.Facts.Ordered.{ordered_joined}
-use Rattle.mm_label.specs.Facts.Members.{within_joined}
+use Rattle.mm_label.specs.Facts.Members.{within_joined, within_first, within_second}
 use Rattle.mm_lists.specs.Facts.Listed.{listed_node, list_ascends}
 use Rattle.mm_label.specs.Facts.Children.{same_child}
 use Rattle.mm_lists.specs.Facts.Formed.{formed}
-use Rattle.mm_fragment.proofs.Subtree.{Holder, IsAt, found_at, list_node, node_list, holder_front, within_left, within_right, apart_common, worded_as}
+use Rattle.mm_fragment.proofs.Subtree.{Holder, IsAt, found_at, list_node, node_list, holder_front, apart_common}
 
 -- trees without names are trees as searches see them
 pub bares_named : (f : Trees Labelled) → bares (named f) ≡ worded f
@@ -127,8 +127,8 @@ picks_open y w query e inner rest g p =
         | inr q ↦ let t = p.from m q in (node_list w m (bare e) (bares inner) (bares rest) (inr t.0), t.1)
       ];
       all = λ m h c. elim (list_node w m (bare e) (bares inner) (bares rest) h) [
-        | inl q ↦ within_left m own later (node_list w m (bare e) (bares inner) none (inl q))
-        | inr q ↦ within_right m own later (p.all m q c)
+        | inl q ↦ within_first m own later (node_list w m (bare e) (bares inner) none (inl q))
+        | inr q ↦ within_second m own later (p.all m q c)
       ];
     }
 
@@ -185,14 +185,14 @@ told y m k answers query (node e inner rest) g t n c h r = elim n [
   | inl p ↦ here (subst (Front e.label) (sym p) (front_refl e.label))
   | inr p ↦ elim p [
     | inl q ↦ here (node_below e.label m (bares inner) g.1 q).0
-    | inr q ↦ within_right k (cond (is_full query (bare e) (bares inner)) (e.label ∷ []) []) (full_list query rest) (told y m k answers query rest g.3 t.1 q c h r)
+    | inr q ↦ within_second k (cond (is_full query (bare e) (bares inner)) (e.label ∷ []) []) (full_list query rest) (told y m k answers query rest g.3 t.1 q c h r)
   ]
 ]
   where
     here : Front e.label m → Within k (full_list query (node e inner rest))
     here f =
         let s : k ≡ e.label = same_child y m k e.label c h g.0 f in
-        within_left k (cond (is_full query (bare e) (bares inner)) (e.label ∷ []) []) (full_list query rest)
+        within_first k (cond (is_full query (bare e) (bares inner)) (e.label ∷ []) []) (full_list query rest)
         (own_of (is_full query (bare e) (bares inner)) e.label k (t.0.1 (subst (λ (z : Label). Reaches z answers) s r)) s)
 
 -- ---- below the root
@@ -230,8 +230,8 @@ opens x trees e inner w query answers s a t =
         | inr q ↦ let r = p.from m q in (a.back w m (inr r.0), (below m q).0, r.1)
       ];
       all = λ m h f c. elim (a.inside w m h f) [
-        | inl q ↦ within_left m first later (own_of (has (bare e) w) e.label m q.0 q.1)
-        | inr q ↦ within_right m first later (p.all m q c)
+        | inl q ↦ within_first m first later (own_of (has (bare e) w) e.label m q.0 q.1)
+        | inr q ↦ within_second m first later (p.all m q c)
       ];
       rising = full_rises x query inner g;
       none = λ m h f n k v q. n k (full_child x k query inner g v) q (reached k answers query inner t v);

@@ -11,9 +11,10 @@ use Rattle.mm_tree.specs.Trees.{Trees, none, node, Tree, one}
 use Rattle.mm_tree.specs.Forests.{and_then}
 use Rattle.mm_tree.specs.Numbering.{Labelled}
 use Rattle.mm_tree.specs.Fragments.{Named, fragment_step, fragment_tree, fragment_trees}
-use Rattle.mm_fragment.specs.Rebuild.{below, behind, take_in, rebuild}
+use Rattle.mm_tree.specs.Formed.{name_label}
+use Rattle.mm_tree.specs.Rebuild.{below, behind, take_in, rebuild}
 use Rattle.mm_fragment.specs.Showing.{shown_at}
-use Rattle.mm_fragment.specs.Piling.{piled, label_of, TakesOff, TakesBelow, shown_all}
+use Rattle.mm_fragment.specs.Inside.Piling.{piled, label_of, TakesOff, TakesBelow, shown_all}
 
 -- a fragment's own label is that of its tree's root
 pub label_out : (f : Fragment) → label_of f ≡ (out-Fragment f).label
@@ -31,24 +32,24 @@ and_none : (us : Trees Named) → and_then us none ≡ us
 and_none none = refl
 and_none (node e inner rest) = ap (λ (r : Trees Named). node e inner r) (and_none rest)
 
-below_yes : (x : Label) (t : Tree Named) (us : Trees Named) → is_front x t.0.label ≡ true → below x (node t.0 t.1 us) ≡ node t.0 t.1 (below x us)
-below_yes x t us e = ap (λ (b : Bool). if b then node t.0 t.1 (below x us) else none) e
+below_yes : (x : Label) (t : Tree Named) (us : Trees Named) → is_front x t.0.label ≡ true → below name_label x (node t.0 t.1 us) ≡ node t.0 t.1 (below name_label x us)
+below_yes x t us e = ap (λ (b : Bool). if b then node t.0 t.1 (below name_label x us) else none) e
 
-below_no : (x : Label) (t : Tree Named) (us : Trees Named) → is_front x t.0.label ≡ false → below x (node t.0 t.1 us) ≡ none
-below_no x t us e = ap (λ (b : Bool). if b then node t.0 t.1 (below x us) else none) e
+below_no : (x : Label) (t : Tree Named) (us : Trees Named) → is_front x t.0.label ≡ false → below name_label x (node t.0 t.1 us) ≡ none
+below_no x t us e = ap (λ (b : Bool). if b then node t.0 t.1 (below name_label x us) else none) e
 
-behind_yes : (x : Label) (t : Tree Named) (us : Trees Named) → is_front x t.0.label ≡ true → behind x (node t.0 t.1 us) ≡ behind x us
-behind_yes x t us e = ap (λ (b : Bool). if b then behind x us else node t.0 t.1 us) e
+behind_yes : (x : Label) (t : Tree Named) (us : Trees Named) → is_front x t.0.label ≡ true → behind name_label x (node t.0 t.1 us) ≡ behind name_label x us
+behind_yes x t us e = ap (λ (b : Bool). if b then behind name_label x us else node t.0 t.1 us) e
 
-behind_no : (x : Label) (t : Tree Named) (us : Trees Named) → is_front x t.0.label ≡ false → behind x (node t.0 t.1 us) ≡ node t.0 t.1 us
-behind_no x t us e = ap (λ (b : Bool). if b then behind x us else node t.0 t.1 us) e
+behind_no : (x : Label) (t : Tree Named) (us : Trees Named) → is_front x t.0.label ≡ false → behind name_label x (node t.0 t.1 us) ≡ node t.0 t.1 us
+behind_no x t us e = ap (λ (b : Bool). if b then behind name_label x us else node t.0 t.1 us) e
 
 -- ---- while what lies below x is taken off
 
 -- what was taken, and what is still to be taken, is all
 pub record Taking (x : Label) (old now off : List Fragment) : Type 0 where
-  pub taken : and_then (fragment_trees off) (below x (piled now)) ≡ below x (piled old)
-  pub left : behind x (piled now) ≡ behind x (piled old)
+  pub taken : and_then (fragment_trees off) (below name_label x (piled now)) ≡ below name_label x (piled old)
+  pub left : behind name_label x (piled now) ≡ behind name_label x (piled old)
 
 pub taking_first : (x : Label) (old : List Fragment) → Taking x old old []
 taking_first x old = record { taken = refl; left = refl }
@@ -57,11 +58,11 @@ pub taking_more : (x : Label) (old now new taken more : List Fragment) (t : Frag
 taking_more x old now new taken more t g h e =
     let p : piled now ≡ node (fragment_tree t).0 (fragment_tree t).1 (piled new) = ap piled h.0 ∙ piled_last new t in
     record {
-      taken = ap (λ (s : List Fragment). and_then (fragment_trees s) (below x (piled new))) e
-          ∙ trees_last taken t (below x (piled new))
-          ∙ ap (λ (us : Trees Named). and_then (fragment_trees taken) us) (sym (ap (below x) p ∙ below_yes x (fragment_tree t) (piled new) h.1))
+      taken = ap (λ (s : List Fragment). and_then (fragment_trees s) (below name_label x (piled new))) e
+          ∙ trees_last taken t (below name_label x (piled new))
+          ∙ ap (λ (us : Trees Named). and_then (fragment_trees taken) us) (sym (ap (below name_label x) p ∙ below_yes x (fragment_tree t) (piled new) h.1))
           ∙ g.taken;
-      left = sym (ap (behind x) p ∙ behind_yes x (fragment_tree t) (piled new) h.1) ∙ g.left;
+      left = sym (ap (behind name_label x) p ∙ behind_yes x (fragment_tree t) (piled new) h.1) ∙ g.left;
     }
 
 last_cases : (s : List Fragment) → (s ≡ []) ⊎ ((r : List Fragment) × (t : Fragment) × (s ≡ r ++ t ∷ []))
@@ -80,10 +81,10 @@ taking_ended x old now new taken g h = elim (last_cases now) [
       ended (node (fragment_tree k.1).0 (fragment_tree k.1).1 (piled k.0)) p (below_no x (fragment_tree k.1) (piled k.0) n) (behind_no x (fragment_tree k.1) (piled k.0) n)
 ]
   where
-    ended : (us : Trees Named) → piled now ≡ us → below x us ≡ none → behind x us ≡ us → TakesBelow x old new taken
+    ended : (us : Trees Named) → piled now ≡ us → below name_label x us ≡ none → behind name_label x us ≡ us → TakesBelow x old new taken
     ended us p b c = record {
-      taken = sym (and_none (fragment_trees taken)) ∙ ap (λ (u : Trees Named). and_then (fragment_trees taken) u) (sym (ap (below x) p ∙ b)) ∙ g.taken;
-      left = ap piled h.0 ∙ p ∙ sym (ap (behind x) p ∙ c) ∙ g.left;
+      taken = sym (and_none (fragment_trees taken)) ∙ ap (λ (u : Trees Named). and_then (fragment_trees taken) u) (sym (ap (below name_label x) p ∙ b)) ∙ g.taken;
+      left = ap piled h.0 ∙ p ∙ sym (ap (behind name_label x) p ∙ c) ∙ g.left;
     }
 
 -- ---- from the last node to the first
@@ -92,7 +93,7 @@ taking_ended x old now new taken g h = elim (last_cases now) [
 pub record Stacking (query : List (List ℕ)) (f : Trees Labelled) (nodes left : List Mark) (stack : List Fragment) : Type 0 where
   pub done : List Mark
   pub all : nodes ≡ left ++ done
-  pub trees : piled stack ≡ rebuild (shown_all query f done)
+  pub trees : piled stack ≡ rebuild name_label (shown_all query f done)
 
 joined_none : (ms : List Mark) → ms ≡ ms ++ []
 joined_none [] = refl
@@ -109,11 +110,11 @@ stacking_more query f nodes left rest m stack middle more off t g e h s k = reco
   all = g.all ∙ ap (λ (r : List Mark). r ++ g.done) e ∙ append_assoc rest (m ∷ []) g.done;
   trees = ap piled k ∙ piled_last middle t ∙ ap (λ (u : Tree Named). node u.0 u.1 (piled middle)) s
       ∙ ap₂ (λ (b r : Trees Named). node (shown_at query f m.label) b r) h.taken h.left
-      ∙ ap (take_in (shown_at query f m.label)) g.trees;
+      ∙ ap (take_in name_label (shown_at query f m.label)) g.trees;
 }
 
-pub stacking_ended : (query : List (List ℕ)) (f : Trees Labelled) (nodes left : List Mark) (stack : List Fragment) → Stacking query f nodes left stack → left ≡ [] → piled stack ≡ rebuild (shown_all query f nodes)
-stacking_ended query f nodes left stack g e = g.trees ∙ ap (λ (ms : List Mark). rebuild (shown_all query f ms)) (sym (g.all ∙ ap (λ (r : List Mark). r ++ g.done) e))
+pub stacking_ended : (query : List (List ℕ)) (f : Trees Labelled) (nodes left : List Mark) (stack : List Fragment) → Stacking query f nodes left stack → left ≡ [] → piled stack ≡ rebuild name_label (shown_all query f nodes)
+stacking_ended query f nodes left stack g e = g.trees ∙ ap (λ (ms : List Mark). rebuild name_label (shown_all query f ms)) (sym (g.all ∙ ap (λ (r : List Mark). r ++ g.done) e))
 
 -- ---- the root
 

@@ -14,8 +14,8 @@ use Rattle.mm_tree.specs.Edits.{found}
 use Rattle.mm_tree.specs.Search.{list_of, worded}
 use Rattle.mm_tree.specs.Fragments.{Named}
 use Rattle.mm_fragment.specs.Bound.{cost_of, full_count, holders}
-use Rattle.mm_fragment.specs.Children.{IsFullChild}
-use Rattle.mm_fragment.specs.Gathering.{IsAsked, Walked, WalkedBelow, Passes, full_list, open_list, open_holders, marked_with, within}
+use Rattle.mm_fragment.specs.Inside.Children.{IsFullChild}
+use Rattle.mm_fragment.specs.Inside.Gathering.{IsAsked, Walked, WalkedBelow, Passes, full_list, open_list, open_holders, marked_with, within}
 use Rattle.mm_fragment.specs.Matching.{Tells, marks_of, open_nodes}
 use Rattle.mm_fragment.specs.Showing.{named_in}
 use Rattle.mm_label.specs.Facts.Fronts.{front_yes, front_no}

@@ -1,29 +1,21 @@
 -- The tree at a label of a well-formed forest.
-use Rattle.std.proofs.Common.{inl, inr, ◌≡◌, ◌⊎◌, Bool, true, false, cond, List, [], ◌∷◌, ◌++◌, refl, sym, subst, Some}
+use Rattle.std.proofs.Common.{inl, inr, ◌≡◌, ◌⊎◌, Bool, true, false, cond, [], ◌∷◌, ◌++◌, refl, sym, subst, Some}
 use Rattle.std.specs.Prelude.{if◌then◌else◌}
 use Rattle.mm_label.specs.Fronts.{Label, Front, Apart, Within}
 use Rattle.mm_lists.specs.Full.{Word}
 use Rattle.mm_label.specs.Label.{whole}
 use Rattle.mm_tree.specs.Trees.{Trees, none, node, Tree}
 use Rattle.mm_tree.specs.Numbering.{Labelled}
-use Rattle.mm_tree.specs.Search.{Worded, has, list_of, worded, own}
+use Rattle.mm_tree.specs.Search.{Worded, has, list_of, worded, worded_as}
 use Rattle.mm_tree.specs.Edits.{found, has_label}
 use Rattle.mm_tree.specs.Edits as edits
 use Rattle.mm_lists.specs.Formed.{WellFormed}
 use Rattle.mm_label.specs.Facts.Fronts.{front_refl, front_trans, front_antisym, fronts_of_one, front_le, le_antisym}
 use Rattle.mm_lists.specs.Facts.Below.{NodeOf, node_below, node_after}
 use Rattle.mm_label.specs.Facts.Lists.{own_cases, own_of}
-use Rattle.mm_label.specs.Facts.Members.{within_joined}
+use Rattle.mm_label.specs.Facts.Members.{within_joined, within_first, within_second}
 use Rattle.mm_lists.specs.Facts.Listed.{listed_node}
 use Rattle.mm_label.specs.Facts.Order.{same_label}
-
-pub within_left : (x : Label) (front back : List Label) → Within x front → Within x (front ++ back)
-within_left x [] back w = absurd w
-within_left x (a ∷ front) back w = elim w [ inl e ↦ inl e | inr k ↦ inr (within_left x front back k) ]
-
-pub within_right : (x : Label) (front back : List Label) → Within x back → Within x (front ++ back)
-within_right x [] back w = w
-within_right x (a ∷ front) back w = inr (within_right x front back w)
 
 -- nothing lies below two that lie apart
 pub apart_common : (a b m : Label) → Apart a b → Front a m → Front b m → ⊥
@@ -47,10 +39,10 @@ list_node w m e inner rest h = elim (within_joined m (cond (has e w) (e.label �
 pub node_list : (w : Word) (m : Label) (e : Worded) (inner rest : Trees Worded) → Holder w m e inner ⊎ Within m (list_of w rest) → Within m (list_of w (node e inner rest))
 node_list w m e inner rest h = elim h [
   | inl k ↦ elim k [
-    | inl q ↦ within_left m (cond (has e w) (e.label ∷ []) []) (list_of w inner ++ list_of w rest) (own_of (has e w) e.label m q.0 q.1)
-    | inr q ↦ within_right m (cond (has e w) (e.label ∷ []) []) (list_of w inner ++ list_of w rest) (within_left m (list_of w inner) (list_of w rest) q)
+    | inl q ↦ within_first m (cond (has e w) (e.label ∷ []) []) (list_of w inner ++ list_of w rest) (own_of (has e w) e.label m q.0 q.1)
+    | inr q ↦ within_second m (cond (has e w) (e.label ∷ []) []) (list_of w inner ++ list_of w rest) (within_first m (list_of w inner) (list_of w rest) q)
   ]
-  | inr k ↦ within_right m (cond (has e w) (e.label ∷ []) []) (list_of w inner ++ list_of w rest) (within_right m (list_of w inner) (list_of w rest) k)
+  | inr k ↦ within_second m (cond (has e w) (e.label ∷ []) []) (list_of w inner ++ list_of w rest) (within_second m (list_of w inner) (list_of w rest) k)
 ]
 
 pub holder_node : (w : Word) (m : Label) (e : Worded) (inner rest : Trees Worded) → Holder w m e inner → NodeOf m (node e inner rest)
@@ -118,9 +110,6 @@ rest_at y x e d inner rest deep g a =
       ];
       back = λ w m h. node_list w m e inner rest (inr (a.back w m h));
     }
-
-abbrev pub worded_as : Labelled → Worded
-worded_as e = record { label = e.label; words = own e.kind }
 
 pub found_at : (y x : Label) (f : Trees Labelled) (t : Tree Labelled) → WellFormed y (worded f) → found x f ≡ Some t → IsAt x (worded f) (worded_as t.0) (worded t.1)
 found_at y x none t g h = absurd cc

@@ -3,11 +3,10 @@ use Rattle.std.proofs.Common.{inl, inr, ◌≡◌, ◌⊎◌, ℕ, ◌+◌, ◌�
 use Rattle.mm_label.specs.Fronts.{Label, Front, Le, Lt, Apart, Within, Ascends}
 use Rattle.mm_lists.specs.Full.{Rising}
 use Rattle.mm_lists.specs.Lists.{IsRight, IsNext, IsRightPast}
-use Rattle.mm_fragment.specs.Gathering.{StandsAt, StandsPast, Walked}
+use Rattle.mm_fragment.specs.Inside.Gathering.{StandsAt, StandsPast, Walked}
 use Rattle.mm_label.specs.Facts.Fronts.{front_le, le_trans, le_antisym, between_front, apart_trans, below_apart, front_cases}
 use Rattle.mm_label.specs.Facts.Order.{before_lt, lt_before, le_before, le_of, past_apart, apart_past}
-use Rattle.mm_label.specs.Facts.Members.{contains_of, within_of, within_joined}
-use Rattle.mm_fragment.proofs.Subtree.{within_right}
+use Rattle.mm_label.specs.Facts.Members.{contains_of, within_of, within_joined, within_second}
 use Rattle.mm_fragment.proofs.Open.{Opens, Clear}
 
 lt_trans : (a b c : Label) → Lt a b → Le b c → Lt a c
@@ -20,7 +19,7 @@ apart_later k a b p l = (le_trans k a b p.0 l, λ f. p.1 (between_front k a b p.
 before_in : (xs ys : List Label) (u r : Label) → Ascends (xs ++ ys) → Within u xs → Within r ys → Lt u r
 before_in [] ys u r g w v = absurd w
 before_in (x ∷ xs) ys u r g w v = elim w [
-  | inl e ↦ subst (λ (z : Label). Lt z r) (sym e) (g.0 r (within_right r xs ys v))
+  | inl e ↦ subst (λ (z : Label). Lt z r) (sym e) (g.0 r (within_second r xs ys v))
   | inr k ↦ before_in xs ys u r g.1 k v
 ]
 
@@ -68,7 +67,7 @@ joined_none [] = refl
 joined_none (x ∷ xs) = ap (λ (ys : List Label). x ∷ ys) (joined_none xs)
 
 from_taken : (ms : List Label) (x : Label) (free full answers done : List Label) (n : ℕ) (o : Option Label) (h : Opens x ms full free answers) (w : Walked ms x free full done n o) (m : Label) → Within m w.rest → Within m free
-from_taken ms x free full answers done n o h w m v = subst (Within m) (sym w.taken) (within_right m done w.rest v)
+from_taken ms x free full answers done n o h w m v = subst (Within m) (sym w.taken) (within_second m done w.rest v)
 
 -- a walk that stands at the end, or behind all that lies below x, has taken all
 pub walk_ended : (ms : List Label) (x : Label) (free full answers done : List Label) (n : ℕ) (o : Option Label) → Opens x ms full free answers → Walked ms x free full done n o
@@ -125,14 +124,14 @@ walk_take ms x a free full answers done n o h w f c r =
 
     next : (o : Option Label) → IsNext ms a o → (more : List Label) → free ≡ (done ++ a ∷ []) ++ more → Ascends (done ++ a ∷ more) → StandsAt ms x (done ++ a ∷ []) more o
     next None r more e g = empty_rest more (λ m v.
-        let t = h.from m (subst (Within m) (sym e) (within_right m (done ++ a ∷ []) more v)) in
+        let t = h.from m (subst (Within m) (sym e) (within_second m (done ++ a ∷ []) more v)) in
         r m (contains_of m ms t.0) (lt_before a m (after done more m g v)))
     next (Some b) r more e g =
         let l = before_lt a b r.1 in (
           within_of b ms r.0,
           le_trans x a b (front_le x a f) l.0,
           (λ m v.
-              let t = h.from m (subst (Within m) (sym e) (within_right m (done ++ a ∷ []) more v)) in
+              let t = h.from m (subst (Within m) (sym e) (within_second m (done ++ a ∷ []) more v)) in
               le_of b m (r.2 m (contains_of m ms t.0) (lt_before a m (after done more m g v)))),
           λ m v. elim (within_joined m done (a ∷ []) v) [
             | inl k ↦ lt_trans m a b (w.here.3 m k) l.0
@@ -158,7 +157,7 @@ cut_at k (j ∷ ks) w = elim w [
 rising_before : (xs ys : List Label) (j k : Label) → Rising (xs ++ k ∷ ys) → Within j xs → Apart j k
 rising_before [] ys j k g w = absurd w
 rising_before (x ∷ xs) ys j k g w = elim w [
-  | inl e ↦ subst (λ (z : Label). Apart z k) (sym e) (g.0 k (within_right k xs (k ∷ ys) (inl refl)))
+  | inl e ↦ subst (λ (z : Label). Apart z k) (sym e) (g.0 k (within_second k xs (k ∷ ys) (inl refl)))
   | inr q ↦ rising_before xs ys j k g.1 q
 ]
 

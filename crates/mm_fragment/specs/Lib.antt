@@ -1,9 +1,5 @@
-pub mod Marked
 pub mod Matching
-pub mod Rebuild
 pub mod Bound
-pub mod Children
-pub mod Gathering
 pub mod Showing
-pub mod Piling
 pub mod Telling
+pub mod Inside

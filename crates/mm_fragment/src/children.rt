@@ -3,7 +3,7 @@
 ghost use Rattle.std.specs.Prelude.{◌≡◌, ◌↔◌, IfOk, AllPairs, IsTrue};
 ghost use Rattle.mm_label.specs.Label.{IsBefore, whole};
 ghost use Rattle.mm_label.specs.Fronts.{Front};
-ghost use Rattle.mm_fragment.specs.Children.{IsFullChild};
+ghost use Rattle.mm_fragment.specs.Inside.Children.{IsFullChild};
 ghost use Rattle.mm_fragment.specs.Matching.{Reaches};
 
 use mm_label::Label;

@@ -7,7 +7,7 @@ ghost use Rattle.mm_tree.specs.Numbering.{Labelled};
 ghost use Rattle.mm_lists.specs.Causes.{Caused, IsSound};
 ghost use Rattle.mm_label.specs.Fronts.{Front};
 ghost use Rattle.mm_fragment.specs.Bound.{cost_of, full_count, holders};
-ghost use Rattle.mm_fragment.specs.Gathering.{IsAsked, Passes, WalkedBelow, open_holders, within};
+ghost use Rattle.mm_fragment.specs.Inside.Gathering.{IsAsked, Passes, WalkedBelow, open_holders, within};
 ghost use Rattle.mm_fragment.specs.Matching.{marks_of, matches_of, open_nodes};
 ghost use Rattle.mm_fragment.specs.Showing.{named_in};
 

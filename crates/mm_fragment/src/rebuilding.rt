@@ -5,8 +5,9 @@ ghost use Rattle.std.specs.Prelude.{◌≡◌, [], IfOk};
 ghost use Rattle.mm_tree.specs.Trees.{Tree, none, one};
 ghost use Rattle.mm_tree.specs.Numbering.{forest_of};
 ghost use Rattle.mm_tree.specs.Fragments.{Named, fragment_tree};
-ghost use Rattle.mm_fragment.specs.Piling.{TakesBelow, TakesOff, piled, shown_all};
-ghost use Rattle.mm_fragment.specs.Rebuild.{rebuild};
+ghost use Rattle.mm_fragment.specs.Inside.Piling.{TakesBelow, TakesOff, piled, shown_all};
+ghost use Rattle.mm_tree.specs.Formed.{name_label};
+ghost use Rattle.mm_tree.specs.Rebuild.{rebuild};
 ghost use Rattle.mm_fragment.specs.Showing.{shown_at};
 
 use crate::showing::show;
@@ -53,7 +54,7 @@ fn stacked(
     nodes: Items<Mark>,
     query: &[Word],
 ) -> Result<Items<Fragment>, AllocError>
-    ensures { IfOk result (λ stack. piled stack ≡ rebuild (shown_all query.now (forest_of forest.now) nodes)) }
+    ensures { IfOk result (λ stack. piled stack ≡ rebuild name_label (shown_all query.now (forest_of forest.now) nodes)) }
 {
     let mut stack = Items::new(alloc);
     let mut left = nodes;
@@ -72,7 +73,7 @@ pub fn rebuild(
     nodes: Items<Mark>,
     query: &[Word],
 ) -> Result<Fragment, AllocError>
-    ensures tree { (t : Tree Named) → rebuild (shown_all query.now (forest_of forest.now) nodes) ≡ one t → IfOk result (λ r. fragment_tree r ≡ t) }
+    ensures tree { (t : Tree Named) → rebuild name_label (shown_all query.now (forest_of forest.now) nodes) ≡ one t → IfOk result (λ r. fragment_tree r ≡ t) }
     ensures alone { nodes ≡ [] → IfOk result (λ r. fragment_tree r ≡ (shown_at query.now (forest_of forest.now) root.now, none)) }
 {
     let mut stack = stacked(alloc, forest, nodes, query)?;

@@ -6,6 +6,7 @@ use Rattle.std.proofs.lemmas.Bool.{ltb-true, and_parts}
 use Rattle.std.proofs.lemmas.Cmp.{nat_list_cmp_total, tied_itself}
 use Rattle.std.proofs.lemmas.Map.Lookups.{exact_bytes, exact_signed}
 use Rattle.mm_label.specs.Bytes.{rank, spell, bytes_of}
+use Rattle.mm_label.specs.Facts.Order.{splits}
 use Rattle.mm_label.specs.Label.{is_in_range, all_in_range, IsAncestorOrSelf, IsPrefix}
 use Rattle.mm_label.proofs.Order.{IsInRange, rank_below, spell_order, spelling_begins}
 
@@ -59,7 +60,7 @@ bytes_of-append (c ∷ a) b = ap (λ zs. spell c ++ zs) (bytes_of-append a b) �
 
 -- the bytes of a are a front of those of b exactly where a is a front of b
 pub same_front : (a b : List ℤ) → IsTrue (all_in_range a) → IsTrue (all_in_range b) → (IsPrefix (bytes_of a) (bytes_of b) → IsAncestorOrSelf a b) × (IsAncestorOrSelf a b → IsPrefix (bytes_of a) (bytes_of b))
-same_front a b h k = (λ f. front_from_bytes a b f.0 h k f.1, λ f. (bytes_of f.0, ap bytes_of f.1 ∙ bytes_of-append a f.0))
+same_front a b h k = (λ f. (splits a b).1 (front_from_bytes a b f.0 h k f.1), λ f. let r = (splits a b).0 f in (bytes_of r.0, ap bytes_of r.1 ∙ bytes_of-append a r.0))
 
 -- bytes spell at most one list of components
 pub spelled_once : (a b : List ℤ) → IsTrue (all_in_range a) → IsTrue (all_in_range b) → bytes_of a ≡ bytes_of b → a ≡ b

@@ -12,8 +12,9 @@ use Rattle.std.proofs.lemmas.Bool.Decides.{Decides-eqb, Decides-int_eq, same_fro
 use Rattle.std.proofs.lemmas.Slice.Eq.{starts_is, slice_eq-Decides}
 use Rattle.mm_label.specs.Facts.Levels.{level-cons}
 use Rattle.mm_label.specs.Bytes.{spell, bytes_of}
+use Rattle.mm_label.specs.Facts.Order.{splits}
 use Rattle.mm_label.specs.Label.{IsLabel, IsAncestorOrSelf, all_in_range, is_in_range, is_odd, last_odd, is_segment, is_empty, level, IsSegment, IsLastSegment, IsParent}
-use Rattle.mm_label.specs.Reading.{component_at, components, Found, IsSpelled, StartsLastSegment}
+use Rattle.mm_label.specs.Inside.Reading.{component_at, components, Found, IsSpelled, StartsLastSegment}
 use Rattle.mm_label.proofs.Order.{IsInRange}
 use Rattle.mm_label.proofs.ByteLaws.{in_range_is, same_order, front_from_bytes, spelled_once, bytes_of-append}
 use Rattle.mm_label.proofs.Readback.{yes, components_again, read_again, read_takes, spells_some}
@@ -34,8 +35,8 @@ pub prefix_is : (x y : List ℕ) (a b : List ℤ) (r : Bool) → IsSpelled x →
 prefix_is x y a b r h k e f s =
     let t = starts_is Decides-eqb y x r s in
     let p = bytes_are x a h e in let q = bytes_are y b k f in (
-      λ w. front_from_bytes a b (drop (length x) y) (label_is x a h e).in_range (label_is y b k f).in_range (sym q ∙ t.0 w ∙ ap (λ zs. zs ++ drop (length x) y) p),
-      λ w. t.1 (bytes_of w.0) (q ∙ ap bytes_of w.1 ∙ bytes_of-append a w.0 ∙ ap (λ zs. zs ++ bytes_of w.0) (sym p)),
+      λ w. (splits a b).1 (front_from_bytes a b (drop (length x) y) (label_is x a h e).in_range (label_is y b k f).in_range (sym q ∙ t.0 w ∙ ap (λ zs. zs ++ drop (length x) y) p)),
+      λ w. let r = (splits a b).0 w in t.1 (bytes_of r.0) (q ∙ ap bytes_of r.1 ∙ bytes_of-append a r.0 ∙ ap (λ zs. zs ++ bytes_of r.0) (sym p)),
     )
 
 pub cmp_is : (x y : List ℕ) (a b : List ℤ) → IsSpelled x → IsSpelled y → components x ≡ a → components y ≡ b → slice_cmp nat_cmp x y ≡ slice_cmp int_cmp a b

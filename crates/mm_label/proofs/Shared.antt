@@ -4,7 +4,10 @@ use Rattle.std.proofs.lemmas.Bool.Decides.{Decides-int_eq}
 use Rattle.std.proofs.lemmas.Bool.{and_parts}
 use Rattle.mm_label.specs.Bytes.{spell, bytes_of}
 use Rattle.mm_label.specs.Label.{IsLabel, IsAncestorOrSelf, all_in_range, is_in_range, is_odd, last_odd, common_front, onto_whole, whole, lca}
-use Rattle.mm_label.specs.Reading.{component_at, components, Found, IsSpelled}
+use Rattle.mm_label.specs.Facts.Fronts.{front_trans, front_lca, lca_left, lca_right}
+use Rattle.mm_label.specs.Facts.Order.{splits}
+use Rattle.mm_label.specs.Facts.Parents.{label_whole}
+use Rattle.mm_label.specs.Inside.Reading.{component_at, components, Found, IsSpelled}
 use Rattle.mm_label.proofs.ByteLaws.{in_range_is, bytes_of-append}
 use Rattle.mm_label.proofs.Readback.{spells_some, components_more, components_none}
 use Rattle.mm_label.proofs.HeldFacts.{step_parts, front_all, IsMade, made_is}
@@ -19,24 +22,6 @@ common_front-append (c ∷ f) u v = by_test (int_eq c c) ((Decides-int_eq c c).1
     by_test true e ih = ap (λ zs. c ∷ zs) ih
     by_test false e ih = absurd cc
 
-common_left : (a b : List ℤ) → IsAncestorOrSelf (common_front a b) a
-common_left [] b = ([], refl)
-common_left (x ∷ a) [] = (x ∷ a, refl)
-common_left (x ∷ a) (y ∷ b) = by_test (int_eq x y) (common_left a b)
-  where
-    by_test : (t : Bool) → IsAncestorOrSelf (common_front a b) a → IsAncestorOrSelf (cond t (x ∷ common_front a b) []) (x ∷ a)
-    by_test true f = (f.0, ap (λ zs. x ∷ zs) f.1)
-    by_test false f = (x ∷ a, refl)
-
-common_right : (a b : List ℤ) → IsAncestorOrSelf (common_front a b) b
-common_right [] b = (b, refl)
-common_right (x ∷ a) [] = ([], refl)
-common_right (x ∷ a) (y ∷ b) = by_test (int_eq x y) refl (common_right a b)
-  where
-    by_test : (t : Bool) → int_eq x y ≡ t → IsAncestorOrSelf (common_front a b) b → IsAncestorOrSelf (cond t (x ∷ common_front a b) []) (y ∷ b)
-    by_test true e f = (f.0, ap₂ (λ z zs. z ∷ zs) (sym ((Decides-int_eq x y).0 e)) f.1)
-    by_test false e f = (y ∷ b, refl)
-
 -- ---- whole segments
 
 whole-push : (cs : List ℤ) (c : ℤ) → whole (cs ++ c ∷ []) ≡ cond (is_odd c) (cs ++ c ∷ []) (whole cs)
@@ -47,28 +32,6 @@ whole-push (d ∷ cs) c = ap (λ zs. onto_whole d zs) (whole-push cs c) ∙ by_t
     by_test cs false = refl
     by_test [] true = refl
     by_test (e ∷ es) true = refl
-
--- what stands before ends of whole segments stays
-whole-append : (b : Bool) (z w : List ℤ) → last_odd b z ≡ true → z ≢ [] → whole (z ++ w) ≡ z ++ whole w
-whole-append b [] w h ne = absurd (ne refl)
-whole-append b (c ∷ []) w h ne = by_rest (whole w)
-  where
-    by_rest : (v : List ℤ) → onto_whole c v ≡ c ∷ v
-    by_rest [] = ap (λ t. cond t (c ∷ []) []) h
-    by_rest (d ∷ v) = refl
-whole-append b (c ∷ d ∷ z) w h ne = ap (λ zs. onto_whole c zs) (whole-append (is_odd c) (d ∷ z) w h (λ e. cc))
-
-onto_front : (c : ℤ) (cs v : List ℤ) → IsAncestorOrSelf v cs → IsAncestorOrSelf (onto_whole c v) (c ∷ cs)
-onto_front c cs [] f = by_test (is_odd c)
-  where
-    by_test : (t : Bool) → IsAncestorOrSelf (cond t (c ∷ []) []) (c ∷ cs)
-    by_test true = (cs, refl)
-    by_test false = (c ∷ cs, refl)
-onto_front c cs (d ∷ v) f = (f.0, ap (λ zs. c ∷ zs) f.1)
-
-whole_front : (cs : List ℤ) → IsAncestorOrSelf (whole cs) cs
-whole_front [] = ([], refl)
-whole_front (c ∷ cs) = onto_front c cs (whole cs) (whole_front cs)
 
 onto_odd : (b : Bool) (c : ℤ) (v : List ℤ) → (v ≡ []) ⊎ (last_odd (is_odd c) v ≡ true) → (onto_whole c v ≡ []) ⊎ (last_odd b (onto_whole c v) ≡ true)
 onto_odd b c [] h = by_test (is_odd c) refl
@@ -84,26 +47,10 @@ whole_odd b (c ∷ cs) = onto_odd b c (whole cs) (whole_odd (is_odd c) cs)
 
 -- ---- the lowest common ancestor
 
-front_trans : (a b c : List ℤ) → IsAncestorOrSelf a b → IsAncestorOrSelf b c → IsAncestorOrSelf a c
-front_trans a b c f g = (f.0 ++ g.0, g.1 ∙ ap (λ zs. zs ++ g.0) f.1 ∙ append_assoc a f.0 g.0)
-
-lca_left : (a b : List ℤ) → IsAncestorOrSelf (lca a b) a
-lca_left a b = front_trans (lca a b) (common_front a b) a (whole_front (common_front a b)) (common_left a b)
-
-lca_right : (a b : List ℤ) → IsAncestorOrSelf (lca a b) b
-lca_right a b = front_trans (lca a b) (common_front a b) b (whole_front (common_front a b)) (common_right a b)
-
-some_components : (z : List ℤ) → IsLabel z → z ≢ []
-some_components [] h e = let k : false ≡ true = h.ends_odd in cc
-some_components (c ∷ z) h e = cc
-
 -- a label is at or above and_parts exactly where it is at or above their lowest common ancestor
 pub common_ancestors : (a b z : List ℤ) → IsLabel z → (IsAncestorOrSelf z a × IsAncestorOrSelf z b) ↔ IsAncestorOrSelf z (lca a b)
 common_ancestors a b z h = (
-  λ f. (
-    whole (common_front f.0.0 f.1.0),
-    ap₂ lca f.0.1 f.1.1 ∙ ap whole (common_front-append z f.0.0 f.1.0) ∙ whole-append false z (common_front f.0.0 f.1.0) h.ends_odd (some_components z h),
-  ),
+  λ f. front_lca z a b (label_whole z h) f.0 f.1,
   λ f. (front_trans z (lca a b) a f (lca_left a b), front_trans z (lca a b) b f (lca_right a b)),
 )
 
@@ -114,7 +61,7 @@ no_bytes [] h e = refl
 no_bytes (c ∷ cs) h e = absurd (omega (arith, e, spells_some c (in_range_is c (and_parts (is_in_range c) (all_in_range cs) h).0), length-append (spell c) (bytes_of cs)))
 
 lca_in_range : (a b : List ℤ) → IsTrue (all_in_range a) → IsTrue (all_in_range (lca a b))
-lca_in_range a b h = let f = lca_left a b in front_all (lca a b) f.0 (subst (λ zs. IsTrue (all_in_range zs)) f.1 h)
+lca_in_range a b h = let f = (splits (lca a b) a).0 (lca_left a b) in front_all (lca a b) f.0 (subst (λ zs. IsTrue (all_in_range zs)) f.1 h)
 
 pub lca_length : (x y s t : List ℕ) (n : ℕ) (a b : List ℤ) → s ≡ x → t ≡ y → components x ≡ a → components y ≡ b → n ≡ length (bytes_of (lca (components s) (components t))) → n ≡ length (bytes_of (lca a b))
 lca_length x y s t n a b e f g h m = m ∙ ap₂ (λ u v. length (bytes_of (lca u v))) (ap components e ∙ g) (ap components f ∙ h)
@@ -124,14 +71,14 @@ lca_none x n a b h e m z = no_bytes (lca a b) (lca_in_range a b (subst (λ zs. I
 
 pub lca_fits : (x : List ℕ) (n : ℕ) (a b : List ℤ) → IsSpelled x → components x ≡ a → n ≡ length (bytes_of (lca a b)) → n ≤ length x
 lca_fits x n a b h e m =
-    let f = lca_left a b in
+    let f = (splits (lca a b) a).0 (lca_left a b) in
     let p : x ≡ bytes_of (lca a b) ++ bytes_of f.0 = sym h.spelled ∙ ap bytes_of (e ∙ f.1) ∙ bytes_of-append (lca a b) f.0 in
     omega (arith, m, ap (λ (zs : List ℕ). length zs) p, length-append (bytes_of (lca a b)) (bytes_of f.0))
 
 pub lca_made : (x cut : List ℕ) (n : ℕ) (a b : List ℤ) → IsSpelled x → components x ≡ a → n ≡ length (bytes_of (lca a b)) → n ≢ 0 → cut ≡ take n x → IsMade cut (lca a b)
 lca_made x cut n a b h e m ne t =
     let l : IsLabel a = subst IsLabel e h.label in
-    let f = lca_left a b in
+    let f = (splits (lca a b) a).0 (lca_left a b) in
     let p : x ≡ bytes_of (lca a b) ++ bytes_of f.0 = sym h.spelled ∙ ap bytes_of (e ∙ f.1) ∙ bytes_of-append (lca a b) f.0 in
     let s : length (bytes_of (lca a b)) ≤ 512 =
     omega (arith, l.short, ap (λ (zs : List ℕ). length zs) (ap bytes_of f.1 ∙ bytes_of-append (lca a b) f.0), length-append (bytes_of (lca a b)) (bytes_of f.0)) in

@@ -9,9 +9,7 @@ Label = List ℤ
 
 -- a is b, or a front of it
 abbrev pub Front : Label → Label → Type 0
-Front [] b = Unit {0}
-Front (x ∷ a) [] = ⊥
-Front (x ∷ a) (y ∷ b) = (x ≡ y) × Front a b
+Front = IsAncestorOrSelf
 
 abbrev pub is_front : Label → Label → Bool
 is_front [] b = true
@@ -53,9 +51,9 @@ abbrev pub parent : Label → Label
 parent x = whole (but_last x)
 
 -- the empty label is no node's
-abbrev pub named : Label → Option Label
-named [] = None
-named (c ∷ cs) = Some (c ∷ cs)
+abbrev pub unless_empty : Label → Option Label
+unless_empty [] = None
+unless_empty (c ∷ cs) = Some (c ∷ cs)
 
 -- x is y and one segment
 pub record IsChild (y x : Label) : Type 0 where

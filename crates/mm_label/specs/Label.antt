@@ -55,7 +55,9 @@ IsBefore a b = slice_cmp int_cmp a b ≡ Less
 
 -- a is an ancestor of b, or b itself
 abbrev pub IsAncestorOrSelf : List ℤ → List ℤ → Type 0
-IsAncestorOrSelf a b = (rest : List ℤ) × (b ≡ a ++ rest)
+IsAncestorOrSelf [] b = Unit {0}
+IsAncestorOrSelf (x ∷ a) [] = ⊥
+IsAncestorOrSelf (x ∷ a) (y ∷ b) = (x ≡ y) × IsAncestorOrSelf a b
 
 -- the label is its parent and one segment
 pub record IsParent (parent cs : List ℤ) : Type 0 where

@@ -1,8 +1,8 @@
 pub mod Bytes
 pub mod Label
-pub mod Reading
 pub mod Between
 pub mod Text
-pub mod Answers
+pub mod Refusals
 pub mod Fronts
+pub mod Inside
 pub mod Facts

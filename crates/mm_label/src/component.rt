@@ -3,7 +3,7 @@
 ghost use Rattle.std.specs.Prelude.{◌≡◌, ◌<◌, IsTrue, IfOk};
 ghost use Rattle.mm_label.specs.Bytes.{rank};
 ghost use Rattle.mm_label.specs.Label.{is_odd, is_in_range};
-ghost use Rattle.mm_label.specs.Reading.{component_at, low_at, four_at, of_rank, components, Finds};
+ghost use Rattle.mm_label.specs.Inside.Reading.{component_at, low_at, four_at, of_rank, components, Finds};
 
 use std::alloc::{AllocError, Global};
 

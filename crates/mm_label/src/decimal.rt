@@ -3,7 +3,8 @@
 ghost use Rattle.std.specs.Prelude.{◌≡◌, ◌++◌, OnOk, IfOk, ◌==◌, string_bytes, flat_map, map, option_map};
 ghost use Rattle.std.specs.List.{slice_split};
 ghost use Rattle.std.specs.Fmt.{signed_decimal};
-ghost use Rattle.mm_label.specs.Text.{text_of, dotted, IsOnlyNumber, AreOnlyNumbers, IsOnlyReading};
+ghost use Rattle.mm_label.specs.Text.{text_of, dotted};
+ghost use Rattle.mm_label.specs.Inside.Numbers.{IsOnlyNumber, AreOnlyNumbers, IsOnlyReading};
 
 use crate::component::is_in_range;
 use std::alloc::{AllocError, Global};

@@ -4,7 +4,7 @@ ghost use Rattle.std.specs.Prelude.{◌≡◌, ◌++◌, ◌∷◌, [], IsTrue, 
 ghost use Rattle.std.specs.Option.{ForSome};
 ghost use Rattle.mm_label.specs.Label.{is_odd, is_in_range, all_in_range, IsSegment};
 ghost use Rattle.mm_label.specs.Between.{above, beneath, after, before, apart, inside, between, first_out, one_or_two, IsOrdered, LiesBetween};
-ghost use Rattle.mm_label.specs.Answers.{RefusesSegment};
+ghost use Rattle.mm_label.specs.Refusals.{RefusesSegment};
 
 use crate::component::{is_in_range, is_odd};
 use crate::error::LabelError;

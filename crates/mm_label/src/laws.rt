@@ -1,13 +1,13 @@
 //! The laws of labels: each is the contract of a function that does nothing.
 
-ghost use Rattle.std.specs.Prelude.{◌≡◌, ◌↔◌, List, ℤ, Option, IsTrue, IfSome};
+ghost use Rattle.std.specs.Prelude.{◌≡◌, ◌↔◌, ◌++◌, List, ℤ, Option, IsTrue, IfSome};
 ghost use Rattle.std.specs.Cmp.Lexicographic.{slice_cmp};
 ghost use Rattle.std.specs.Ordering.{nat_cmp, int_cmp};
 ghost use Rattle.mm_label.specs.Bytes.{bytes_of};
 ghost use Rattle.mm_label.specs.Label.{IsLabel, IsAncestorOrSelf, IsPrefix, is_segment, lca};
 ghost use Rattle.mm_label.specs.Text.{text_of};
 ghost use Rattle.mm_label.specs.Between.{between, IsOrdered, LiesBetween};
-ghost use Rattle.mm_label.specs.Fronts.{Apart, Front, IsAtOrBefore, IsPast, Le};
+ghost use Rattle.mm_label.specs.Fronts.{Apart, IsAtOrBefore, IsPast, Le};
 
 /// Byte order is label order.
 pub fn byte_order()
@@ -41,9 +41,9 @@ pub fn lowest_common_ancestor()
     ensures { (a b z : List ℤ) → IsLabel z → (IsAncestorOrSelf z a × IsAncestorOrSelf z b) ↔ IsAncestorOrSelf z (lca a b) }
 {}
 
-/// A front of a label is an ancestor of it or the label itself.
+/// A label is b or an ancestor of it exactly where b goes on from it.
 pub fn fronts_are_ancestors()
-    ensures { (a b : List ℤ) → Front a b ↔ IsAncestorOrSelf a b }
+    ensures { (a b : List ℤ) → IsAncestorOrSelf a b ↔ ((rest : List ℤ) × (b ≡ a ++ rest)) }
 {}
 
 /// The order by recursion is the order of labels.

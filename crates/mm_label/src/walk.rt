@@ -3,7 +3,7 @@
 ghost use Rattle.std.specs.Prelude.{◌≡◌, length, MatchBool};
 ghost use Rattle.mm_label.specs.Bytes.{bytes_of};
 ghost use Rattle.mm_label.specs.Label.{SpellsNoLabel, level, lca};
-ghost use Rattle.mm_label.specs.Reading.{component_at, components, IsSpelled, StartsLastSegment, FindsBoth};
+ghost use Rattle.mm_label.specs.Inside.Reading.{component_at, components, IsSpelled, StartsLastSegment, FindsBoth};
 
 use crate::component::{component_at, is_odd};
 use crate::spelling::MOST_BYTES;

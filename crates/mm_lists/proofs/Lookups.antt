@@ -1,14 +1,13 @@
 -- A binary search of labels in document order finds the first and the last that are asked for.
-use Rattle.std.proofs.Common.{inl, inr, ◌≡◌, ℕ, ◌+◌, ◌-◌, ◌<◌, ◌≤◌, Bool, true, false, List, [], ◌∷◌, ap, sym, subst, ◌∙◌, Option, Some, None, length, arith}
+use Rattle.std.proofs.Common.{inl, inr, ◌≡◌, ℕ, ◌+◌, ◌-◌, ◌<◌, ◌≤◌, Bool, true, false, List, [], ap, sym, subst, ◌∙◌, Option, Some, None, length, arith}
 use Rattle.std.specs.Prelude.{slice_index_or, slice_get, AllPairs}
 use Rattle.std.specs.List.{AllWithin}
 use Rattle.std.specs.List.Sorted.{IsPartitionedBy, IsPartitionPoint}
 use Rattle.std.specs.Ordering.{int_cmp, is_le, is_lt}
 use Rattle.std.specs.Cmp.Lexicographic.{slice_cmp}
 use Rattle.std.proofs.lemmas.Bool.{cases_lt, or_cases, or_left, or_right, or_parts}
-use Rattle.std.proofs.lemmas.List.Kept.{AllPairs-cons}
 use Rattle.mm_label.specs.Label.{IsBefore}
-use Rattle.mm_label.specs.Fronts.{Label, is_front, Ascends, IsAtOrBefore, IsPast}
+use Rattle.mm_label.specs.Fronts.{Label, is_front, IsAtOrBefore, IsPast}
 use Rattle.mm_lists.specs.Full.{Word}
 use Rattle.std.specs.BTreeMap.{BTreeMap}
 use Rattle.mm_tree.specs.Trees.{Trees}
@@ -17,9 +16,8 @@ use Rattle.mm_tree.specs.Search.{list_of, worded}
 use Rattle.mm_lists.specs.Memory.{is_through, list_in, AreOf}
 use Rattle.mm_lists.specs.Lists.{IsFirst, IsLast, IsLeft, IsRight, IsNext, IsRightPast}
 use Rattle.mm_label.specs.Facts.Fronts.{front_yes, front_no, is_front_of, le_total, between_front}
-use Rattle.mm_label.specs.Facts.Order.{before_lt, le_before, lt_before, front_of, ancestor_of}
-use Rattle.mm_label.specs.Facts.Members.{within_of}
-use Rattle.mm_label.specs.Facts.Places.{before_trans, le_true, le_false, true_le, lt_true, lt_false, before_not, get_none, get_some, same_at, at_or_before}
+use Rattle.mm_label.specs.Facts.Order.{before_lt, le_before}
+use Rattle.mm_label.specs.Facts.Places.{before_trans, le_true, le_false, true_le, lt_true, lt_false, before_not, get_none, get_some, same_at, at_or_before, in_order}
 use Rattle.mm_lists.specs.Facts.Formed.{formed}
 use Rattle.mm_lists.specs.Facts.Listed.{list_ascends}
 
@@ -59,13 +57,13 @@ before_point ms v i p = (λ k d h q. lt_true _ v (p.0 k d h q), λ k d h q. lt_f
 through_yes : (v m : Label) → is_through v m ≡ true → IsPast v m → ⊥
 through_yes v m e h = elim (or_cases (is_le (slice_cmp int_cmp m v)) _ e) [
   | inl q ↦ before_not v m h.0 (le_true m v q)
-  | inr q ↦ h.1 (ancestor_of v m (front_yes v m q))
+  | inr q ↦ h.1 (front_yes v m q)
 ]
 
 through_no : (v m : Label) → is_through v m ≡ false → IsPast v m
 through_no v m e =
     let t = or_parts (is_le (slice_cmp int_cmp m v)) (is_front v m) e in
-    (le_false m v t.0, λ f. front_no v m t.1 (front_of v m f))
+    (le_false m v t.0, front_no v m t.1)
 
 pub through_point : (ms : List Label) (v : Label) (i : ℕ) → IsPartitionPoint (λ m. is_through v m ≡ true) (λ m. is_through v m ≡ false) ms i
     → IsPartitionPoint (λ m. IsPast v m → ⊥) (λ m. IsPast v m) ms i
@@ -101,10 +99,6 @@ pub none_found : (P : Label → Type 0) (ms : List Label) → AllWithin (λ m. P
 none_found P ms high = λ m c p. high c.0 m (omega arith) c.1 (subst P (sym c.2) p)
 
 -- ---- keyword lists
-
-pub in_order : (ms : List Label) → Ascends ms → AllPairs IsBefore ms
-in_order [] a = λ i j d h k. absurd (omega arith)
-in_order (m ∷ ms) a = AllPairs-cons IsBefore m ms (λ k d h. lt_before m (slice_index_or ms k d) (a.0 (slice_index_or ms k d) (within_of (slice_index_or ms k d) ms (k, h, same_at ms k (slice_index_or ms k d) d h)))) (in_order ms a.1)
 
 -- the list under a word is in document order
 list_ordered : (lists : BTreeMap Word (List Label)) (f : Trees Labelled) (w : Word) → AreOf lists f → AllPairs IsBefore (list_of w (worded f))

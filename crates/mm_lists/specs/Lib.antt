@@ -4,4 +4,5 @@ pub mod Full
 pub mod Formed
 pub mod Shortest
 pub mod Memory
+pub mod Inside
 pub mod Facts

@@ -8,7 +8,8 @@ ghost use Rattle.mm_tree.specs.Forests.{is_well_formed};
 ghost use Rattle.mm_tree.specs.Search.{list_of, lists_of, worded};
 ghost use Rattle.mm_lists.specs.Causes.{Caused, IsSound};
 ghost use Rattle.mm_label.specs.Fronts.{Label, Within, Meets};
-ghost use Rattle.mm_lists.specs.Full.{Full, IsCandidate, deeper, narrowed, or_empty, reach};
+ghost use Rattle.mm_lists.specs.Full.{MeetsAll, IsCandidate};
+ghost use Rattle.mm_lists.specs.Inside.Narrowing.{deeper, narrowed, or_empty, ancestor_with};
 
 use crate::lists::Lists;
 use mm_host::Fault;
@@ -20,7 +21,7 @@ use std::sync::ledger::Ledger;
 
 /// The lowest common ancestor with a match, if there is one.
 fn reached(alloc: Global, x: &Label, of: &Option<Label>) -> Result<Option<Label>, AllocError>
-    ensures { IfOk result (λ o. or_empty o ≡ reach x.now of.now) }
+    ensures { IfOk result (λ o. or_empty o ≡ ancestor_with x.now of.now) }
 {
     match of {
         None => Ok(None),
@@ -118,7 +119,7 @@ pub fn candidate<X: Lists, L: Ledger>(
     steps: &mut Steps<L>,
 ) -> Result<Option<Label>, Fault>
     requires { own < length words.now }
-    ensures value { (f : Trees Labelled) → IsTrue (is_well_formed f) → X.stands lists.old f → Full [] (lists_of words.now (worded f)) → Within v.now (list_of (get_or words.now own []) (worded f))
+    ensures value { (f : Trees Labelled) → IsTrue (is_well_formed f) → X.stands lists.old f → MeetsAll [] (lists_of words.now (worded f)) → Within v.now (list_of (get_or words.now own []) (worded f))
         → IfOk result (λ c. IsCandidate (lists_of words.now (worded f)) v.now (or_empty c)) }
     ensures kept { (f : Trees Labelled) → X.stands lists.old f ↔ X.stands lists.new f }
     ensures ground { X.same_ground lists.old lists.new }

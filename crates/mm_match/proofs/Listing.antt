@@ -1,33 +1,28 @@
 -- The entries of a map in order, as marks.
-use Rattle.std.proofs.Common.{inl, inr, ◌≡◌, ℕ, zero, suc, ◌<◌, List, [], ◌∷◌, ap, sym, subst, ◌∙◌, Some, None, length, arith, Less}
+use Rattle.std.proofs.Common.{inl, inr, ◌≡◌, ℕ, zero, suc, ◌<◌, List, [], ◌∷◌, refl, ap, sym, subst, ◌∙◌, Some, None, length, arith}
 use Rattle.std.specs.Prelude.{slice_index_or, ◌↔◌}
 use Rattle.std.specs.BTreeMap.{BTreeMap, keys}
-use Rattle.std.specs.List.{Contains, AllByRecursion}
+use Rattle.std.specs.List.{Contains}
 use Rattle.std.specs.List.Sorted.{IsStrictlySortedBy}
 use Rattle.std.specs.Map.{keys_of}
 use Rattle.std.specs.Ordering.{int_cmp}
 use Rattle.std.specs.Cmp.{int_cmp_total}
 use Rattle.std.specs.Cmp.Lexicographic.{slice_cmp, lists_total}
-use Rattle.std.proofs.lemmas.Map.Keys.{sorted_head, sorted_tail}
 use Rattle.std.proofs.lemmas.Map.Views.{btree_map_get_iff}
 use Rattle.mm_match.specs.declared.mark.Mark.{Mark}
-use Rattle.mm_label.specs.Fronts.{Label, Lt, Within, Ascends}
-use Rattle.mm_match.specs.Marks.{InMarks, IsOnPath, labels, mask_at}
-use Rattle.mm_match.specs.Passing.{gathered, marks_of, mask_in}
-use Rattle.mm_label.specs.Facts.Order.{before_lt}
+use Rattle.mm_label.specs.Fronts.{Label, Within, Ascends}
+use Rattle.mm_match.specs.Marks.{IsOnPath, labels, mask_at}
+use Rattle.mm_match.specs.Inside.Passing.{gathered, marks_of, mask_in}
+use Rattle.mm_label.specs.Facts.Places.{sorted_ascends}
 use Rattle.mm_match.proofs.Ties.{exact_label}
 use Rattle.mm_match.proofs.PathFacts.{gathered_met, gathered_path}
 
-entries_ascend : (es : List (Label × ℕ)) → IsStrictlySortedBy (slice_cmp int_cmp) (keys_of es) → Ascends (labels (marks_of es))
-entries_ascend [] s = tt
-entries_ascend (e ∷ es) s = (later e.0 es (sorted_head (slice_cmp int_cmp) e.0 (keys_of es) s), entries_ascend es (sorted_tail (slice_cmp int_cmp) e.0 (keys_of es) s))
-  where
-    later : (a : Label) (es : List (Label × ℕ)) → AllByRecursion (λ y. slice_cmp int_cmp a y ≡ Less) (keys_of es) → (m : Label) → Within m (labels (marks_of es)) → Lt a m
-    later a [] all m w = absurd w
-    later a (e ∷ es) all m w = elim w [ inl h ↦ subst (Lt a) (sym h) (before_lt a e.0 all.0) | inr h ↦ later a es all.1 m h ]
+labels_keys : (es : List (Label × ℕ)) → labels (marks_of es) ≡ keys_of es
+labels_keys [] = refl
+labels_keys (e ∷ es) = ap (λ (r : List Label). e.0 ∷ r) (labels_keys es)
 
 pub ascends : (masks : BTreeMap Label ℕ) → IsStrictlySortedBy (slice_cmp int_cmp) (keys masks) → Ascends (labels (marks_of masks.entries))
-ascends masks s = entries_ascend masks.entries s
+ascends masks s = subst Ascends (sym (labels_keys masks.entries)) (sorted_ascends (keys masks) s)
 
 label_in : (x : Label) (es : List (Label × ℕ)) → Within x (labels (marks_of es)) → (n : ℕ) × Contains es (x, n)
 label_in x [] w = absurd w
@@ -36,7 +31,7 @@ label_in x (e ∷ es) w = elim w [
   | inr h ↦ let t = label_in x es h in (t.0, (suc t.1.0, omega (arith, t.1.1), t.1.2))
 ]
 
-mark_in : (m : Mark) (es : List (Label × ℕ)) → InMarks m (marks_of es) → Contains es (m.label, m.mask)
+mark_in : (m : Mark) (es : List (Label × ℕ)) → Within m (marks_of es) → Contains es (m.label, m.mask)
 mark_in m [] w = absurd w
 mark_in m (e ∷ es) w = elim w [
   | inl h ↦ (0, omega arith, ap (λ (z : Mark). (z.label, z.mask)) (sym h))
@@ -62,7 +57,7 @@ some_is : (a b : ℕ) → Some a ≡ Some b → a ≡ b
 some_is a b e = cc
 
 pub words : (root : Label) (ms : List Mark) (masks : BTreeMap Label ℕ) → IsStrictlySortedBy (slice_cmp int_cmp) (keys masks) → ((x : Label) → mask_in masks x ≡ gathered root x None ms)
-    → (m : Mark) → InMarks m (marks_of masks.entries) → m.mask ≡ mask_at m.label ms
+    → (m : Mark) → Within m (marks_of masks.entries) → m.mask ≡ mask_at m.label ms
 words root ms masks s is m w =
     let g = sym (is m.label) ∙ (btree_map_get_iff (lists_total int_cmp_total) exact_label masks s m.label m.mask).1 (mark_in m masks.entries w) in
     let p = gathered_path root m.label m.mask ms g in

@@ -2,11 +2,11 @@
 use Rattle.std.proofs.Common.{◌≡◌, Bool, true, false, cond, ℕ, ◌<◌, ◌+◌, [], ◌∷◌, ◌++◌, refl, ap, sym, subst, ◌∙◌, Option, Some, None, arith}
 use Rattle.std.specs.Prelude.{ℤ, MatchOption}
 use Rattle.mm_label.specs.Label.{IsLabel, IsParent, level, whole, onto_whole, is_odd, is_segment, last_odd}
-use Rattle.mm_label.specs.Fronts.{Label, but_last, parent, named}
+use Rattle.mm_label.specs.Fronts.{Label, but_last, parent, unless_empty}
 use Rattle.mm_label.specs.Facts.Fronts.{kept}
 use Rattle.mm_label.specs.Facts.Children.{no_segment}
 use Rattle.mm_label.specs.Facts.Levels.{level-cons}
-use Rattle.mm_label.specs.Facts.Parents.{named_some, label_some, label_whole}
+use Rattle.mm_label.specs.Facts.Parents.{unless_empty_some, label_some, label_whole}
 
 segment_parent : (s : Label) → is_segment s ≡ true → whole (but_last s) ≡ []
 segment_parent [] g = absurd cc
@@ -49,6 +49,6 @@ one_level b (c ∷ d ∷ ds) n o l = by (is_odd c) refl (sym (level-cons c (d �
     by true e l again p = absurd (omega arith)
     by false e l again p = ap (onto_whole c) (again (omega (arith, l))) ∙ ap (λ (t : Bool). cond t (c ∷ []) []) e
 
-pub found_is : (found : Option Label) (x : Label) → IsLabel x → MatchOption found (level x ≡ 1) (λ p. IsParent p x) → found ≡ named (parent x)
-found_is None x l h = sym (ap named (one_level false x (label_some x l) l.ends_odd h))
-found_is (Some p) x l h = sym (ap named (ap parent h.parts ∙ parent_joined p h.segment (label_whole p h.label) h.one) ∙ named_some p (label_some p h.label))
+pub found_is : (found : Option Label) (x : Label) → IsLabel x → MatchOption found (level x ≡ 1) (λ p. IsParent p x) → found ≡ unless_empty (parent x)
+found_is None x l h = sym (ap unless_empty (one_level false x (label_some x l) l.ends_odd h))
+found_is (Some p) x l h = sym (ap unless_empty (ap parent h.parts ∙ parent_joined p h.segment (label_whole p h.label) h.one) ∙ unless_empty_some p (label_some p h.label))

@@ -8,9 +8,9 @@ use Rattle.std.specs.Option.{option_cmp}
 use Rattle.std.specs.Ordering.{int_cmp, is_eq}
 use Rattle.std.specs.Cmp.Lexicographic.{slice_cmp}
 use Rattle.mm_match.specs.declared.mark.Mark.{Mark}
-use Rattle.mm_label.specs.Fronts.{Label, is_front, same, parent, named}
+use Rattle.mm_label.specs.Fronts.{Label, is_front, same, parent, unless_empty}
 use Rattle.mm_match.specs.Marks.{under, is_rival, is_beaten}
-use Rattle.mm_match.specs.Passing.{masks_in, outdone, same_parent, thin, taken, next_cut}
+use Rattle.mm_match.specs.Inside.Passing.{masks_in, outdone, same_parent, thin, taken, next_cut}
 use Rattle.mm_match.proofs.Ties.{key_is, key_same}
 use Rattle.mm_match.proofs.Thinning.{thin_step}
 
@@ -52,7 +52,7 @@ put_is old mid new parent masks more mask a b f g at v = by (is_eq (option_cmp (
 
 -- ---- siblings by the labels of their parents
 
-named_same : (a b : Label) → same_parent (named a) (named b) ≡ same a b
+named_same : (a b : Label) → same_parent (unless_empty a) (unless_empty b) ≡ same a b
 named_same [] [] = refl
 named_same [] (y ∷ b) = refl
 named_same (x ∷ a) [] = refl
@@ -67,10 +67,10 @@ turned a b = by (is_front a b) (is_front b a)
     by false true = refl
     by false false = refl
 
-pub beaten_is : (m : Mark) (all : List Mark) → list_any (λ n. same_parent (named (parent n.label)) (named (parent m.label)) && under m.mask n.mask) all ≡ is_beaten all m
+pub beaten_is : (m : Mark) (all : List Mark) → list_any (λ n. same_parent (unless_empty (parent n.label)) (unless_empty (parent m.label)) && under m.mask n.mask) all ≡ is_beaten all m
 beaten_is m [] = refl
 beaten_is m (n ∷ all) =
-    ap (λ (t : Bool). (t && under m.mask n.mask) || list_any (λ n. same_parent (named (parent n.label)) (named (parent m.label)) && under m.mask n.mask) all)
+    ap (λ (t : Bool). (t && under m.mask n.mask) || list_any (λ n. same_parent (unless_empty (parent n.label)) (unless_empty (parent m.label)) && under m.mask n.mask) all)
     (named_same (parent n.label) (parent m.label) ∙ turned (parent n.label) (parent m.label))
     ∙ ap (λ (t : Bool). is_rival m n || t) (beaten_is m all)
 

@@ -1,41 +1,19 @@
 -- One pass in document order keeps the marks that survive.
-use Rattle.std.proofs.Common.{inl, inr, ◌≡◌, ◌⊎◌, Bool, true, false, not, ◌&&◌, ◌||◌, cond, List, [], ◌∷◌, ◌++◌, refl, ap, sym, subst, ◌∙◌, Option, Some, None, ℕ, ◌≤◌, length, drop}
+use Rattle.std.proofs.Common.{inl, inr, ◌≡◌, ◌⊎◌, Bool, true, false, not, ◌&&◌, cond, List, [], ◌∷◌, ◌++◌, refl, ap, sym, subst, ◌∙◌, Option, Some, None, ℕ, ◌≤◌, length, drop}
 use Rattle.std.proofs.lemmas.List.{drop_all}
 use Rattle.std.specs.List.{list_any, filter}
 use Rattle.std.proofs.lemmas.Bool.{and_parts, and_from}
 use Rattle.mm_match.specs.declared.mark.Mark.{Mark}
 use Rattle.mm_label.specs.Fronts.{Label, Front, is_front, Le, Within, Ascends}
-use Rattle.mm_match.specs.Marks.{labels, InMarks, is_beaten, kept}
-use Rattle.mm_match.specs.Passing.{is_cut, thin, next_cut, taken}
+use Rattle.mm_match.specs.Marks.{mark_label, labels, is_beaten, kept}
+use Rattle.mm_match.specs.Inside.Passing.{is_cut, thin, next_cut, taken}
+use Rattle.mm_label.specs.Facts.Members.{in_within, any_at, any_none}
 use Rattle.mm_label.specs.Facts.Fronts.{front_refl, front_trans, front_le, front_yes, is_front_of, le_antisym, between_front}
-
-pub any_at : (t : Mark → Bool) (p : Mark) (all : List Mark) → InMarks p all → t p ≡ true → list_any t all ≡ true
-any_at t p [] w e = absurd w
-any_at t p (m ∷ ms) w e = elim w [
-  | inl h ↦ rw (ap t (sym h) ∙ e) refl
-  | inr h ↦ by (t m) (any_at t p ms h e)
-]
-  where
-    by : (b : Bool) → list_any t ms ≡ true → (b || list_any t ms) ≡ true
-    by true k = refl
-    by false k = k
-
-pub any_none : (t : Mark → Bool) (all : List Mark) → ((p : Mark) → InMarks p all → t p ≡ true → ⊥) → list_any t all ≡ false
-any_none t [] h = refl
-any_none t (m ∷ ms) h = by (t m) refl (any_none t ms (λ p w. h p (inr w)))
-  where
-    by : (b : Bool) → t m ≡ b → list_any t ms ≡ false → (b || list_any t ms) ≡ false
-    by true e k = absurd (h m (inl refl) e)
-    by false e k = k
-
-pub label_within : (p : Mark) (ms : List Mark) → InMarks p ms → Within p.label (labels ms)
-label_within p [] w = absurd w
-label_within p (m ∷ ms) w = elim w [ inl h ↦ inl (ap (λ (q : Mark). q.label) h) | inr h ↦ inr (label_within p ms h) ]
 
 -- what was cut is a mark that is beaten
 abbrev pub Sound : (Mark → Bool) → List Mark → Option Label → Type 0
 Sound bad all None = Unit {0}
-Sound bad all (Some c) = (p : Mark) × InMarks p all × (bad p ≡ true) × (p.label ≡ c)
+Sound bad all (Some c) = (p : Mark) × Within p all × (bad p ≡ true) × (p.label ≡ c)
 
 -- whatever of the marks passed is beaten, what comes later below it lies below the cut
 abbrev pub Covers : (Mark → Bool) → (Mark → Type 0) → Option Label → Type 0
@@ -52,8 +30,8 @@ is_cut_below None a x e f = absurd (cc)
 is_cut_below (Some c) a x e f = is_front_of c x (front_trans c a x (front_yes c a e) f)
 
 pub thin_keeps : (bad : Mark → Bool) (all : List Mark) (P : Mark → Type 0) (cut : Option Label) (ms : List Mark)
-    → ((p : Mark) → InMarks p all → P p ⊎ InMarks p ms) → ((p : Mark) → InMarks p ms → InMarks p all)
-    → ((p q : Mark) → P p → InMarks q ms → Le p.label q.label) → Ascends (labels ms)
+    → ((p : Mark) → Within p all → P p ⊎ Within p ms) → ((p : Mark) → Within p ms → Within p all)
+    → ((p q : Mark) → P p → Within q ms → Le p.label q.label) → Ascends (labels ms)
     → Sound bad all cut → Covers bad P cut
     → thin bad cut ms ≡ filter (λ m. not (list_any (λ p. is_front p.label m.label && bad p) all)) ms
 thin_keeps bad all P cut [] split of before rise sound covers = refl
@@ -63,13 +41,13 @@ thin_keeps bad all P cut (m ∷ ms) split of before rise sound covers =
     Q : Mark → Type 0
     Q p = P p ⊎ (p ≡ m)
 
-    next_split : (p : Mark) → InMarks p all → Q p ⊎ InMarks p ms
+    next_split : (p : Mark) → Within p all → Q p ⊎ Within p ms
     next_split p w = elim (split p w) [ inl h ↦ inl (inl h) | inr h ↦ elim h [ inl e ↦ inl (inr e) | inr k ↦ inr k ] ]
 
-    next_before : (p q : Mark) → Q p → InMarks q ms → Le p.label q.label
+    next_before : (p q : Mark) → Q p → Within q ms → Le p.label q.label
     next_before p q w k = elim w [
       | inl h ↦ before p q h (inr k)
-      | inr e ↦ subst (λ (r : Mark). Le r.label q.label) (sym e) ((rise.0 q.label (label_within q ms k)).0)
+      | inr e ↦ subst (λ (r : Mark). Le r.label q.label) (sym e) ((rise.0 q.label (in_within mark_label q ms k)).0)
     ]
 
     passed : (q : Mark) → P q → Le q.label m.label
@@ -101,7 +79,7 @@ thin_keeps bad all P cut (m ∷ ms) split of before rise sound covers =
           | inl h ↦ let d : is_cut cut m.label ≡ true = covers p h d.1 m.label passed f in absurd (cc)
           | inr h ↦ elim h [
             | inl g ↦ let z : bad m ≡ true = subst (λ (r : Mark). bad r ≡ true) g d.1 in absurd (cc)
-            | inr g ↦ let q = rise.0 p.label (label_within p ms g) in absurd (q.1 (le_antisym m.label p.label q.0 (front_le p.label m.label f)))
+            | inr g ↦ let q = rise.0 p.label (in_within mark_label p ms g) in absurd (q.1 (le_antisym m.label p.label q.0 (front_le p.label m.label f)))
           ]
         ]) in
         rw t (ap (λ (r : List Mark). m ∷ r) (again cut sound

@@ -1,18 +1,16 @@
 -- Marks: nodes with words of a query as bits. What a node's mask is, and which marks are kept.
-use Rattle.std.specs.Prelude.{ℕ, Bool, not, ◌&&◌, List, [], ◌∷◌, ◌≡◌, ◌⊎◌, nat_eq, cond}
+use Rattle.std.specs.Prelude.{ℕ, Bool, not, ◌&&◌, List, [], ◌∷◌, ◌≡◌, nat_eq, cond, map}
 use Rattle.std.specs.List.{list_any, filter}
 use Rattle.std.specs.Int.Bits.{bit_and, bit_or}
 use Rattle.mm_label.specs.Label.{whole}
 use Rattle.mm_match.specs.declared.mark.Mark.{Mark}
 use Rattle.mm_label.specs.Fronts.{Label, Front, is_front, Meets, same, parent}
 
-abbrev pub labels : List Mark → List Label
-labels [] = []
-labels (m ∷ ms) = m.label ∷ labels ms
+abbrev pub mark_label : Mark → Label
+mark_label m = m.label
 
-abbrev pub InMarks : Mark → List Mark → Type 0
-InMarks p [] = ⊥
-InMarks p (m ∷ ms) = (p ≡ m) ⊎ InMarks p ms
+abbrev pub labels : List Mark → List Label
+labels = map mark_label
 
 -- ---- masks
 

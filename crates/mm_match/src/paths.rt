@@ -7,8 +7,8 @@ ghost use Rattle.std.specs.List.Sorted.{IsStrictlySortedBy};
 ghost use Rattle.std.specs.BTreeMap.{keys};
 ghost use Rattle.mm_label.specs.Fronts.{Ascends, Label, Within};
 ghost use Rattle.mm_match.specs.declared.mark.Mark.{Mark};
-ghost use Rattle.mm_match.specs.Marks.{InMarks, IsOnPath, labels, mask_at};
-ghost use Rattle.mm_match.specs.Passing.{gathered, let_in, marks_of, mask_in, more, or_above};
+ghost use Rattle.mm_match.specs.Marks.{IsOnPath, labels, mask_at};
+ghost use Rattle.mm_match.specs.Inside.Passing.{gathered, let_in, marks_of, mask_in, more, or_above};
 
 use crate::mark::Mark;
 use crate::parents::parent_of;
@@ -88,7 +88,7 @@ fn listed(alloc: Global, masks: Masks) -> Result<Items<Mark>, AllocError>
 pub fn masks(alloc: Global, root: &Label, matches: &[Mark]) -> Result<Items<Mark>, AllocError>
     ensures ordered { IfOk result (λ r. Ascends (labels r)) }
     ensures on_path { IfOk result (λ r. (x : Label) → Within x (labels r) ↔ IsOnPath root.now matches.now x) }
-    ensures words { IfOk result (λ r. (m : Mark) → InMarks m r → m.mask ≡ mask_at m.label matches.now) }
+    ensures words { IfOk result (λ r. (m : Mark) → Within m r → m.mask ≡ mask_at m.label matches.now) }
 {
     let masks = gathered(alloc, root, matches)?;
     listed(alloc, masks)

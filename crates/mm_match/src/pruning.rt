@@ -2,9 +2,9 @@
 
 ghost use Rattle.std.specs.Prelude.{◌≡◌, ◌&&◌, ◌||◌, ℕ, Option, IfOk, OnOk};
 ghost use Rattle.std.specs.List.{list_any};
-ghost use Rattle.mm_label.specs.Fronts.{Ascends, Label, named, parent};
+ghost use Rattle.mm_label.specs.Fronts.{Ascends, Label, parent, unless_empty};
 ghost use Rattle.mm_match.specs.Marks.{kept, labels, under};
-ghost use Rattle.mm_match.specs.Passing.{is_cut, next_cut, outdone, same_parent, taken};
+ghost use Rattle.mm_match.specs.Inside.Passing.{is_cut, next_cut, outdone, same_parent, taken};
 
 use crate::mark::Mark;
 use crate::parents::parent_of;
@@ -50,7 +50,7 @@ fn put(
 
 /// The distinct masks of all siblings among the marks.
 fn siblings_of(alloc: Global, marked: &[Mark]) -> Result<Siblings, AllocError>
-    ensures { IfOk result (λ siblings. (at : Option Label) (v : ℕ) → outdone siblings at v ≡ list_any (λ n. same_parent (named (parent n.label)) at && under v n.mask) marked.now) }
+    ensures { IfOk result (λ siblings. (at : Option Label) (v : ℕ) → outdone siblings at v ≡ list_any (λ n. same_parent (unless_empty (parent n.label)) at && under v n.mask) marked.now) }
 {
     let mut siblings = BTreeMap::new(alloc);
     for mark in marked {
@@ -62,7 +62,7 @@ fn siblings_of(alloc: Global, marked: &[Mark]) -> Result<Siblings, AllocError>
 
 /// Whether a sibling's words are a strict superset of the mark's.
 fn is_beaten(alloc: Global, siblings: &Siblings, mark: &Mark) -> Result<bool, AllocError>
-    ensures { IfOk result (λ beaten. beaten ≡ outdone siblings.now (named (parent mark.now.label)) mark.now.mask) }
+    ensures { IfOk result (λ beaten. beaten ≡ outdone siblings.now (unless_empty (parent mark.now.label)) mark.now.mask) }
 {
     let parent = parent_of(alloc, &mark.label)?;
     match siblings.get(&parent) {

@@ -1,7 +1,7 @@
 -- The recursion on trees gives the deepest full nodes of the keyword lists.
 use Rattle.std.proofs.Common.{inl, inr, ◌≡◌, ◌⊎◌, Bool, true, false, cond, List, [], ◌∷◌, ◌++◌, refl, sym, subst}
 use Rattle.std.proofs.lemmas.Bool.{or_cases, or_parts}
-use Rattle.mm_label.specs.Fronts.{Label, Front, Within, Meets}
+use Rattle.mm_label.specs.Fronts.{Label, Front, Apart, Within, Meets}
 use Rattle.mm_lists.specs.Full.{Rising, Deepest, Word}
 use Rattle.mm_label.specs.Label.{whole}
 use Rattle.mm_tree.specs.Trees.{Trees, none, node}
@@ -10,7 +10,8 @@ use Rattle.mm_lists.specs.Formed.{WellFormed}
 use Rattle.mm_label.specs.Facts.Fronts.{front_refl, front_trans, below_apart, front_cases}
 use Rattle.mm_label.specs.Facts.Lists.{meets_above, meets_left, meets_right}
 use Rattle.mm_label.specs.Facts.Members.{within_joined}
-use Rattle.mm_lists.specs.Facts.Below.{NodeOf, node_below, node_after, AllBelow, AllOne, full_of, of_full, all_one, all_after, all_inner, rising_joined, full_lists, lists_full}
+use Rattle.mm_label.specs.Facts.Ordered.{ordered_joined}
+use Rattle.mm_lists.specs.Facts.Below.{NodeOf, node_below, node_after, AllBelow, AllOne, full_of, of_full, all_one, all_after, all_inner, full_lists, lists_full}
 
 -- ---- at one node, then at all
 
@@ -130,7 +131,7 @@ part_below ws e inner u g h = elim (part_within ws e inner u h) [
 
 pub slca_rising : (y : Label) (ws : List Word) (forest : Trees Worded) → WellFormed y forest → Rising (slca ws forest)
 slca_rising y ws none g = tt
-slca_rising y ws (node e inner rest) g = rising_joined (part ws e inner) (slca ws rest)
+slca_rising y ws (node e inner rest) g = ordered_joined Apart (part ws e inner) (slca ws rest)
     (part_rising ws e inner (slca_rising e.label ws inner g.1))
     (slca_rising y ws rest g.3)
     (λ u r p q. below_apart e.label u r (node_after e.label y r rest g.3 g.2 (slca_full y ws rest r g.3 q).0) (part_below ws e inner u g.1 p))

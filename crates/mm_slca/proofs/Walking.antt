@@ -2,15 +2,15 @@
 use Rattle.std.proofs.Common.{inl, inr, ◌≡◌, ℕ, List, [], ◌∷◌, ◌++◌, refl, ap, sym, subst, ◌∙◌, ◌+◌, ◌≤◌, ◌<◌, Bool, true, false, cond, Some, None, Option, length, take, drop, take_all, arith}
 use Rattle.std.proofs.lemmas.List.{length-drop, drop_all, take_more}
 use Rattle.mm_label.specs.Fronts.{Label, Front, is_front, Le, Apart, Within, Meets, Ascends}
-use Rattle.mm_lists.specs.Full.{Full, IsFull, IsFullNode, Deepest, IsCandidate}
-use Rattle.mm_slca.specs.Walk.{Walked, Stands, finished, taken_done, taken_held}
+use Rattle.mm_lists.specs.Full.{MeetsAll, IsFull, IsFullNode, Deepest, IsCandidate}
+use Rattle.mm_slca.specs.Inside.Walk.{Walked, Stands, finished, taken_done, taken_held}
 use Rattle.mm_lists.specs.Facts.Nearest.{NextMatch}
 use Rattle.mm_lists.specs.Lists.{head_of}
 use Rattle.mm_label.specs.Facts.Fronts.{front_trans, front_antisym, front_le, front_yes, front_no, le_trans, le_total, between_front, apart_trans}
 use Rattle.mm_label.specs.Facts.Lists.{met, meets, within_last, within_cases, meets_longer, within_drop, ascends_tail}
 use Rattle.mm_lists.specs.Facts.Walking.{rising_more, head_none, head_some, next_is, drop_rest}
 
-pub walk_first : (ls : List (List Label)) → Full [] ls → Walked ls [] [] []
+pub walk_first : (ls : List (List Label)) → MeetsAll [] ls → Walked ls [] [] []
 walk_first ls f = record {
   rising = tt;
   before = λ d w. absurd w;
@@ -76,7 +76,7 @@ above_front [] p = p.1 tt
 above_front (x ∷ d) p = p.0
 
 -- after the whole list: nothing is held
-pub walk_none : (ls : List (List Label)) (ms done : List Label) → ((z : Label) → Full z ls → Meets z ms) → Walked ls done [] ms → Deepest ls done
+pub walk_none : (ls : List (List Label)) (ms done : List Label) → ((z : Label) → MeetsAll z ls → Meets z ms) → Walked ls done [] ms → Deepest ls done
 walk_none ls ms done own w = record {
   rising = w.rising;
   full = λ u n. absurd (above_front u (w.before u n));
@@ -86,7 +86,7 @@ walk_none ls ms done own w = record {
 }
 
 -- or the last candidate is
-pub walk_held : (ls : List (List Label)) (ms done : List Label) (held : Label) → ((z : Label) → Full z ls → Meets z ms) → Walked ls done held ms → (held ≡ [] → ⊥) → Deepest ls (done ++ held ∷ [])
+pub walk_held : (ls : List (List Label)) (ms done : List Label) (held : Label) → ((z : Label) → MeetsAll z ls → Meets z ms) → Walked ls done held ms → (held ≡ [] → ⊥) → Deepest ls (done ++ held ∷ [])
 walk_held ls ms done held own w some = record {
   rising = rising_more done held w.rising w.before;
   full = λ u n. elim (within_cases u held done n) [
@@ -152,11 +152,11 @@ stands_some ls ms i done held v c o a s k n =
           held_before v held c m k.above (asc.0 m u).0 (s.later m (subst (Within m) (sym t.1) (inr u)));
     }
 
-pub stands_first : (ls : List (List Label)) (ms : List Label) → Full [] ls → Stands ls ms 0 [] [] (head_of ms)
+pub stands_first : (ls : List (List Label)) (ms : List Label) → MeetsAll [] ls → Stands ls ms 0 [] [] (head_of ms)
 stands_first ls ms f = record { walked = walk_first ls f; here = refl; later = λ m w. tt }
 
 -- the list is passed: what is held is the last answer
-pub stands_end : (ls : List (List Label)) (ms done : List Label) (held : Label) (at : Option Label) → ((z : Label) → Full z ls → Meets z ms)
+pub stands_end : (ls : List (List Label)) (ms done : List Label) (held : Label) (at : Option Label) → ((z : Label) → MeetsAll z ls → Meets z ms)
     → Stands ls ms (length ms) done held at → Deepest ls (finished done held)
 stands_end ls ms done [] at own s = walk_none ls ms done own (subst (λ (p : List Label). Walked ls done [] p) (take_all (length ms) ms (omega arith)) s.walked)
 stands_end ls ms done (x ∷ held) at own s =

@@ -5,9 +5,10 @@ ghost use Rattle.mm_tree.specs.Numbering.{Labelled};
 ghost use Rattle.mm_tree.specs.Forests.{is_well_formed};
 ghost use Rattle.mm_tree.specs.Search.{list_of, lists_of, slca, worded};
 ghost use Rattle.mm_lists.specs.Causes.{Caused, IsSound};
-ghost use Rattle.mm_lists.specs.Full.{Full, or_empty};
+ghost use Rattle.mm_lists.specs.Full.{MeetsAll};
+ghost use Rattle.mm_lists.specs.Inside.Narrowing.{or_empty};
 ghost use Rattle.mm_slca.specs.Bound.{cost_of};
-ghost use Rattle.mm_slca.specs.Walk.{Stands};
+ghost use Rattle.mm_slca.specs.Inside.Walk.{Stands};
 
 use crate::walk::{Walk, finish, take_up};
 use mm_host::Fault;
@@ -30,7 +31,7 @@ fn pass<X: Lists, L: Ledger>(
     steps: &mut Steps<L>,
 ) -> Result<Option<Label>, Fault>
     requires { own < length words.now }
-    ensures value { (f : Trees Labelled) (i : ℕ) → IsTrue (is_well_formed f) → X.stands lists.old f → Full [] (lists_of words.now (worded f))
+    ensures value { (f : Trees Labelled) (i : ℕ) → IsTrue (is_well_formed f) → X.stands lists.old f → MeetsAll [] (lists_of words.now (worded f))
         → Stands (lists_of words.now (worded f)) (list_of (get_or words.now own []) (worded f)) i walk.old.done (or_empty walk.old.held) at
         → IfOk result (λ next. Stands (lists_of words.now (worded f)) (list_of (get_or words.now own []) (worded f)) (i + 1) walk.new.done (or_empty walk.new.held) next) }
     ensures kept { (f : Trees Labelled) → X.stands lists.old f ↔ X.stands lists.new f }
@@ -60,7 +61,7 @@ fn walk_list<X: Lists, L: Ledger>(
     steps: &mut Steps<L>,
 ) -> Result<Items<Label>, Fault>
     requires { own < length words.now }
-    ensures value { (f : Trees Labelled) → IsTrue (is_well_formed f) → X.stands lists.old f → Full [] (lists_of words.now (worded f)) → length (list_of (get_or words.now own []) (worded f)) ≡ size
+    ensures value { (f : Trees Labelled) → IsTrue (is_well_formed f) → X.stands lists.old f → MeetsAll [] (lists_of words.now (worded f)) → length (list_of (get_or words.now own []) (worded f)) ≡ size
         → IfOk result (λ r. r ≡ slca words.now (worded f)) }
     ensures kept { (f : Trees Labelled) → X.stands lists.old f ↔ X.stands lists.new f }
     ensures ground { X.same_ground lists.old lists.new }

@@ -1,8 +1,8 @@
 //! The answers so far, and the candidate that is held back until no deeper one can come.
 
 ghost use Rattle.std.specs.Prelude.{◌≡◌, ◌<◌, IfOk};
-ghost use Rattle.mm_lists.specs.Full.{or_empty};
-ghost use Rattle.mm_slca.specs.Walk.{finished, taken_done, taken_held};
+ghost use Rattle.mm_lists.specs.Inside.Narrowing.{or_empty};
+ghost use Rattle.mm_slca.specs.Inside.Walk.{finished, taken_done, taken_held};
 
 use mm_label::Label;
 use mm_list::Items;

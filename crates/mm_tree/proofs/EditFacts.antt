@@ -20,7 +20,7 @@ use Rattle.mm_tree.specs.Forests.{are_labelled, has_valid_kind, are_elements, is
 use Rattle.mm_tree.specs.Edits.{has_label, has, found, is_text, size_of, subtree_size, Change, taken_out, put_instead, put, edit, Gap, gap_at, gap, left_segment, right_segment, label_in, inserted_label, insert, delete, replace, is_inside, room_refusal, placed_refusal, insert_refusal, delete_refusal, replace_refusal}
 use Rattle.mm_tree.specs.Ways.{leads_to, found_down, edit_down, gap_down, IsOpen}
 use Rattle.mm_tree.proofs.NumberForm.{number_form, valid_numbered}
-use Rattle.mm_tree.proofs.LabelledLaws.{parts}
+use Rattle.mm_tree.specs.Facts.Formed.{parts}
 use Rattle.mm_tree.proofs.LoadFacts.{no_fit, no_fit_either, all_room, rises_is}
 use Rattle.mm_tree.proofs.WayLaws.{label_is, within, is_found, present, found_is, edit_is, gap_is, labels_of}
 use Rattle.mm_tree.proofs.PlaceFacts.{node_of_out}

@@ -1,9 +1,12 @@
 -- The nodes that own every word of a query are those with an occurrence of each outside the full nodes below them.
-use Rattle.std.proofs.Common.{◌≡◌, refl, ap, sym, ◌∙◌, subst, ℕ, ◌⊎◌, inl, inr, Bool, true, false, cond, not, ◌&&◌, ◌||◌, List, [], ◌∷◌, ◌++◌, append_assoc, append-nil, ◌↔◌, Contains}
+use Rattle.std.proofs.Common.{◌≡◌, refl, sym, ◌∙◌, subst, ℕ, ◌⊎◌, inl, inr, Bool, true, false, cond, not, ◌&&◌, ◌||◌, List, [], ◌∷◌, ◌++◌, ◌↔◌, Contains}
 use Rattle.std.specs.Prelude.{ℤ, Option, Some, None, All}
 use Rattle.std.proofs.lemmas.Bool.{or_cases, or_left, or_right, and_from, and_parts}
 use Rattle.std.proofs.lemmas.List.Elements.{All-nil, All-cons, All-head, All-tail}
 use Rattle.mm_label.specs.Label.{IsAncestorOrSelf}
+use Rattle.mm_label.specs.Fronts.{Within}
+use Rattle.mm_label.specs.Facts.Fronts.{front_refl, front_trans, front_antisym}
+use Rattle.mm_label.specs.Facts.Members.{contains_of, within_of, within_joined, within_first, within_second}
 use Rattle.mm_tree.specs.Trees.{Trees, none, node}
 use Rattle.mm_tree.specs.Numbering.{Labelled}
 use Rattle.mm_tree.specs.Forests.{segment_below, are_labelled, is_well_formed}
@@ -11,11 +14,11 @@ use Rattle.mm_tree.specs.Search.{Worded, worded, has, holds, is_full, list_of}
 use Rattle.mm_tree.specs.Elca.{outside, owns, elca}
 use Rattle.mm_tree.specs.Smallest.{full_nodes}
 use Rattle.mm_tree.specs.Owners.{OwnOccurrence, IsExclusive}
-use Rattle.mm_tree.proofs.LabelledLaws.{Parts, parts}
+use Rattle.mm_tree.specs.Facts.Formed.{Parts, parts}
 use Rattle.mm_tree.proofs.OrderLaws.{Under}
-use Rattle.mm_tree.proofs.WayLaws.{cancel, labels_of}
+use Rattle.mm_tree.proofs.WayLaws.{labels_of}
 use Rattle.mm_tree.proofs.SearchFacts.{full_of_child}
-use Rattle.mm_tree.proofs.SmallestLaws.{Within, within_from, contains_from, in_joined, in_left, in_right, seen, full_cases, full_here, full_inside, full_behind, full_root, full_under, here_under, inside_under, behind_under, not_behind, not_above, itself, below, through, true_false}
+use Rattle.mm_tree.proofs.SmallestLaws.{seen, full_cases, full_here, full_inside, full_behind, full_root, full_under, here_under, inside_under, behind_under, not_behind, not_above, below, true_false}
 use Rattle.mm_tree.proofs.OwnerLaws.{mine, mine_is, mine_only, owner_full}
 
 -- ---- the keyword list of a word
@@ -27,17 +30,17 @@ list_cases w e inner rest x v = by (has e w) refl v
     by : (b : Bool) → has e w ≡ b → Within x (cond b (e.label ∷ []) [] ++ (list_of w inner ++ list_of w rest))
         → ((has e w ≡ true) × (x ≡ e.label)) ⊎ (Within x (list_of w inner) ⊎ Within x (list_of w rest))
     by true h (inl g) = inl (h, g)
-    by true h (inr u) = inr (in_joined x (list_of w inner) (list_of w rest) u)
-    by false h u = inr (in_joined x (list_of w inner) (list_of w rest) u)
+    by true h (inr u) = inr (within_joined x (list_of w inner) (list_of w rest) u)
+    by false h u = inr (within_joined x (list_of w inner) (list_of w rest) u)
 
 list_here : (w : List ℕ) (e : Worded) (inner rest : Trees Worded) → has e w ≡ true → Within e.label (list_of w (node e inner rest))
 list_here w e inner rest h = subst (λ b. Within e.label (cond b (e.label ∷ []) [] ++ (list_of w inner ++ list_of w rest))) (sym h) (inl refl)
 
 list_inside : (w : List ℕ) (e : Worded) (inner rest : Trees Worded) (x : List ℤ) → Within x (list_of w inner) → Within x (list_of w (node e inner rest))
-list_inside w e inner rest x v = in_right x (cond (has e w) (e.label ∷ []) []) _ (in_left x (list_of w inner) (list_of w rest) v)
+list_inside w e inner rest x v = within_second x (cond (has e w) (e.label ∷ []) []) _ (within_first x (list_of w inner) (list_of w rest) v)
 
 list_behind : (w : List ℕ) (e : Worded) (inner rest : Trees Worded) (x : List ℤ) → Within x (list_of w rest) → Within x (list_of w (node e inner rest))
-list_behind w e inner rest x v = in_right x (cond (has e w) (e.label ∷ []) []) _ (in_right x (list_of w inner) (list_of w rest) v)
+list_behind w e inner rest x v = within_second x (cond (has e w) (e.label ∷ []) []) _ (within_second x (list_of w inner) (list_of w rest) v)
 
 held_somewhere : (w : List ℕ) (ts : Trees Worded) → holds w ts ≡ true → (x : List ℤ) × Within x (list_of w ts)
 held_somewhere w none h = absurd cc
@@ -93,7 +96,7 @@ outside_at query w y left (node e inner rest) l h =
       | inl k ↦
           let q = second_of (is_full query (seen e) I) _ k in
           let found : (m : List ℤ) × Within m (list_of w (worded (node e inner rest))) × IsAncestorOrSelf e.label m = elim (or_cases (has (seen e) w) _ q.1) [
-            | inl g ↦ (e.label, list_here w (seen e) I R g, itself e.label)
+            | inl g ↦ (e.label, list_here w (seen e) I R g, front_refl e.label)
             | inr g ↦ let f = held_somewhere w I g in (f.0, list_inside w (seen e) I R f.0 f.1, below e.label f.0 (list_under w e.label None inner p.below f.0 f.1))
           ] in (
             found.0,
@@ -112,9 +115,9 @@ outside_at query w y left (node e inner rest) l h =
             t.0,
             list_behind w (seen e) I R t.0 t.1,
             λ z v a. elim (full_cases query (seen e) I R z v) [
-              | inl f ↦ not_behind y left e inner rest p t.0 t.0 u (subst (λ x. IsAncestorOrSelf x t.0) f.1 a) (itself t.0)
+              | inl f ↦ not_behind y left e inner rest p t.0 t.0 u (subst (λ x. IsAncestorOrSelf x t.0) f.1 a) (front_refl t.0)
               | inr c ↦ elim c [
-                | inl i ↦ not_behind y left e inner rest p t.0 t.0 u (through e.label z t.0 (below e.label z (inside z i)) a) (itself t.0)
+                | inl i ↦ not_behind y left e inner rest p t.0 t.0 u (front_trans e.label z t.0 (below e.label z (inside z i)) a) (front_refl t.0)
                 | inr r ↦ t.2 z r a
               ]
             ],
@@ -130,7 +133,7 @@ outside_of query w y left (node e inner rest) l t =
     let first : IsAncestorOrSelf e.label t.0 → (has (seen e) w || holds w I) ≡ true → outside w query (worded (node e inner rest)) ≡ true
     = λ a h. or_left (not (is_full query (seen e) I) && (has (seen e) w || holds w I)) _ (not_full (is_full query (seen e) I) refl a h) in
     elim (list_cases w (seen e) I R t.0 t.1) [
-      | inl h ↦ first (subst (λ x. IsAncestorOrSelf e.label x) (sym h.1) (itself e.label)) (or_left (has (seen e) w) _ h.0)
+      | inl h ↦ first (subst (λ x. IsAncestorOrSelf e.label x) (sym h.1) (front_refl e.label)) (or_left (has (seen e) w) _ h.0)
       | inr u ↦ elim u [
         | inl i ↦ first (below e.label t.0 (list_under w e.label None inner p.below t.0 i)) (or_right (has (seen e) w) _ (somewhere_held w I t.0 i))
         | inr r ↦ or_right (not (is_full query (seen e) I) && (has (seen e) w || holds w I)) _
@@ -155,15 +158,9 @@ each_so : (query : List (List ℕ)) (ts us : Trees Worded) (x : List ℤ) → ((
 each_so query ts us x f [] h = tt
 each_so query ts us x f (w ∷ ws) h = (f w h.0, each_so query ts us x f ws h.1)
 
-nothing_more : (xs ys : List ℤ) → [] ≡ xs ++ ys → xs ≡ []
-nothing_more [] ys e = refl
-nothing_more (x ∷ xs) ys e = absurd cc
-
 -- two labels that are at or below each other are one
 one_label : (x z : List ℤ) → IsAncestorOrSelf x z → IsAncestorOrSelf z x → z ≡ x
-one_label x z a b =
-    let e : [] ≡ a.0 ++ b.0 = cancel x [] (a.0 ++ b.0) (append-nil x ∙ b.1 ∙ ap (λ t. t ++ b.0) a.1 ∙ append_assoc x a.0 b.0) in
-    a.1 ∙ ap (λ t. x ++ t) (nothing_more a.0 b.0 e) ∙ append-nil x
+one_label x z a b = front_antisym z x b a
 
 -- at the root of a tree
 module _ (query : List (List ℕ)) (y : List ℤ) (left : Option (List ℤ)) (e : Labelled) (inner rest : Trees Labelled) (p : Parts y left e inner rest) where
@@ -175,7 +172,7 @@ module _ (query : List (List ℕ)) (y : List ℤ) (left : Option (List ℤ)) (e 
 
   root_owns : (w : List ℕ) → (has (seen e) w || outside w query (worded inner)) ≡ true → Own query (worded (node e inner rest)) e.label w
   root_owns w h = elim (or_cases (has (seen e) w) _ h) [
-    | inl k ↦ (e.label, list_here w (seen e) (worded inner) (worded rest) k, itself e.label, λ z v a b. one_label e.label z a b)
+    | inl k ↦ (e.label, list_here w (seen e) (worded inner) (worded rest) k, front_refl e.label, λ z v a b. one_label e.label z a b)
     | inr k ↦
         let t = outside_at query w e.label None inner p.below k in (
           t.0,
@@ -185,7 +182,7 @@ module _ (query : List (List ℕ)) (y : List ℤ) (left : Option (List ℤ)) (e 
             | inl f ↦ f.1
             | inr u ↦ elim u [
               | inl i ↦ absurd (t.2 z i b)
-              | inr r ↦ absurd (not_behind y left e inner rest p z z (behind_it z r) a (itself z))
+              | inr r ↦ absurd (not_behind y left e inner rest p z z (behind_it z r) a (front_refl z))
             ]
           ],
         )
@@ -199,9 +196,9 @@ module _ (query : List (List ℕ)) (y : List ℤ) (left : Option (List ℤ)) (e 
         o.0,
         i,
         λ z v b.
-            not_above e.label z (inside_it z v) (subst (λ t. IsAncestorOrSelf z t) (o.3 z (full_inside query (seen e) (worded inner) (worded rest) z v) (below e.label z (inside_it z v)) b) (itself z)),
+            not_above e.label z (inside_it z v) (subst (λ t. IsAncestorOrSelf z t) (o.3 z (full_inside query (seen e) (worded inner) (worded rest) z v) (below e.label z (inside_it z v)) b) (front_refl z)),
       ))
-      | inr r ↦ absurd (not_behind y left e inner rest p o.0 o.0 (list_under w y (Some (segment_below y e.label)) rest p.after o.0 r) o.2 (itself o.0))
+      | inr r ↦ absurd (not_behind y left e inner rest p o.0 o.0 (list_under w y (Some (segment_below y e.label)) rest p.after o.0 r) o.2 (front_refl o.0))
     ]
   ]
 
@@ -223,7 +220,7 @@ module _ (query : List (List ℕ)) (y : List ℤ) (left : Option (List ℤ)) (e 
       | inl f ↦ absurd (not_above e.label x n (subst (λ t. IsAncestorOrSelf x t) f.1 a))
       | inr u ↦ elim u [
         | inl i ↦ o.3 z i a b
-        | inr r ↦ absurd (not_behind y left e inner rest p z z (behind_it z r) (through e.label x z (below e.label x n) a) (itself z))
+        | inr r ↦ absurd (not_behind y left e inner rest p z z (behind_it z r) (front_trans e.label x z (below e.label x n) a) (front_refl z))
       ]
     ],
   )
@@ -233,7 +230,7 @@ module _ (query : List (List ℕ)) (y : List ℤ) (left : Option (List ℤ)) (e 
     | inl h ↦ absurd (not_above e.label x n (subst (λ t. IsAncestorOrSelf x t) h.1 o.2))
     | inr u ↦ elim u [
       | inl i ↦ (o.0, i, o.2, λ z v a b. o.3 z (full_inside query (seen e) (worded inner) (worded rest) z v) a b)
-      | inr r ↦ absurd (not_behind y left e inner rest p o.0 o.0 (list_under w y (Some (segment_below y e.label)) rest p.after o.0 r) (through e.label x o.0 (below e.label x n) o.2) (itself o.0))
+      | inr r ↦ absurd (not_behind y left e inner rest p o.0 o.0 (list_under w y (Some (segment_below y e.label)) rest p.after o.0 r) (front_trans e.label x o.0 (below e.label x n) o.2) (front_refl o.0))
     ]
   ]
 
@@ -244,7 +241,7 @@ module _ (query : List (List ℕ)) (y : List ℤ) (left : Option (List ℤ)) (e 
     list_behind w (seen e) (worded inner) (worded rest) o.0 o.1,
     o.2,
     λ z v a b. elim (full_cases query (seen e) (worded inner) (worded rest) z v) [
-      | inl f ↦ absurd (not_behind y left e inner rest p x z n (subst (λ t. IsAncestorOrSelf e.label t) (sym f.1) (itself e.label)) a)
+      | inl f ↦ absurd (not_behind y left e inner rest p x z n (subst (λ t. IsAncestorOrSelf e.label t) (sym f.1) (front_refl e.label)) a)
       | inr u ↦ elim u [
         | inl i ↦ absurd (not_behind y left e inner rest p x z n (below e.label z (inside_it z i)) a)
         | inr r ↦ o.3 z r a b
@@ -254,7 +251,7 @@ module _ (query : List (List ℕ)) (y : List ℤ) (left : Option (List ℤ)) (e 
 
   down_behind : (x : List ℤ) → Under y (Some (segment_below y e.label)) x → (w : List ℕ) → Own query (worded (node e inner rest)) x w → Own query (worded rest) x w
   down_behind x n w o = elim (list_cases w (seen e) (worded inner) (worded rest) o.0 o.1) [
-    | inl h ↦ absurd (not_behind y left e inner rest p x o.0 n (subst (λ t. IsAncestorOrSelf e.label t) (sym h.1) (itself e.label)) o.2)
+    | inl h ↦ absurd (not_behind y left e inner rest p x o.0 n (subst (λ t. IsAncestorOrSelf e.label t) (sym h.1) (front_refl e.label)) o.2)
     | inr u ↦ elim u [
       | inl i ↦ absurd (not_behind y left e inner rest p x o.0 n (below e.label o.0 (list_under w e.label None inner p.below o.0 i)) o.2)
       | inr r ↦ (o.0, r, o.2, λ z v a b. o.3 z (full_behind query (seen e) (worded inner) (worded rest) z v) a b)
@@ -269,9 +266,9 @@ answer_owns query y left (node e inner rest) l x v =
     let p = parts y left e inner rest l in
     let I = worded inner in
     let R = worded rest in
-    elim (in_joined x (mine query (seen e) I) (elca query I ++ elca query R) v) [
+    elim (within_joined x (mine query (seen e) I) (elca query I ++ elca query R) v) [
       | inl m ↦ let k = mine_only query (seen e) I x m in subst (λ t. OwnEach query (worded (node e inner rest)) t query) (sym k.1) (roots_own query y left e inner rest p query k.0)
-      | inr u ↦ elim (in_joined x (elca query I) (elca query R) u) [
+      | inr u ↦ elim (within_joined x (elca query I) (elca query R) u) [
         | inl i ↦ each_so query I (worded (node e inner rest)) x (up_inside query y left e inner rest p x (inside_it query y left e inner rest p x (owner_full query I x i))) query (answer_owns query e.label None inner p.below x i)
         | inr r ↦ each_so query R (worded (node e inner rest)) x (up_behind query y left e inner rest p x (behind_it query y left e inner rest p x (owner_full query R x r))) query (answer_owns query y (Some (segment_below y e.label)) rest p.after x r)
       ]
@@ -287,11 +284,11 @@ owner_answers query y left (node e inner rest) l x v o =
     elim (full_cases query (seen e) I R x v) [
       | inl h ↦
           let k : owns query query (seen e) I ≡ true = own_roots query y left e inner rest p query (subst (λ t. OwnEach query (worded (node e inner rest)) t query) h.1 o) in
-          in_left x (mine query (seen e) I) (elca query I ++ elca query R) (subst (λ t. Within t (mine query (seen e) I)) (sym h.1) (mine_is query (seen e) I k))
+          within_first x (mine query (seen e) I) (elca query I ++ elca query R) (subst (λ t. Within t (mine query (seen e) I)) (sym h.1) (mine_is query (seen e) I k))
       | inr u ↦ elim u [
-        | inl i ↦ in_right x (mine query (seen e) I) _ (in_left x (elca query I) (elca query R)
+        | inl i ↦ within_second x (mine query (seen e) I) _ (within_first x (elca query I) (elca query R)
             (owner_answers query e.label None inner p.below x i (each_so query (worded (node e inner rest)) I x (down_inside query y left e inner rest p x (inside_it query y left e inner rest p x i)) query o)))
-        | inr r ↦ in_right x (mine query (seen e) I) _ (in_right x (elca query I) (elca query R)
+        | inr r ↦ within_second x (mine query (seen e) I) _ (within_second x (elca query I) (elca query R)
             (owner_answers query y (Some (segment_below y e.label)) rest p.after x r (each_so query (worded (node e inner rest)) R x (down_behind query y left e inner rest p x (behind_it query y left e inner rest p x r)) query o)))
       ]
     ]
@@ -303,23 +300,23 @@ occurrences query ts x [] h = All-nil (OwnOccurrence query ts x)
 occurrences query ts x (w ∷ ws) h =
     let o = h.0 in
     All-cons (OwnOccurrence query ts x) w ws
-    (record { occurrence = o.0; has_word = contains_from (list_of w ts) o.0 o.1; below = o.2; outside = λ z v a b. o.3 z (within_from (full_nodes query ts) z v) a b })
+    (record { occurrence = o.0; has_word = contains_of o.0 (list_of w ts) o.1; below = o.2; outside = λ z v a b. o.3 z (within_of z (full_nodes query ts) v) a b })
     (occurrences query ts x ws h.1)
 
 each_owned : (query : List (List ℕ)) (ts : Trees Worded) (x : List ℤ) (ws : List (List ℕ)) → All (OwnOccurrence query ts x) ws → OwnEach query ts x ws
 each_owned query ts x [] h = tt
 each_owned query ts x (w ∷ ws) h =
     let o = All-head (OwnOccurrence query ts x) w ws h in (
-      (o.occurrence, within_from (list_of w ts) o.occurrence o.has_word, o.below, λ z v a b. o.outside z (contains_from (full_nodes query ts) z v) a b),
+      (o.occurrence, within_of o.occurrence (list_of w ts) o.has_word, o.below, λ z v a b. o.outside z (contains_of z (full_nodes query ts) v) a b),
       each_owned query ts x ws (All-tail (OwnOccurrence query ts x) w ws h),
     )
 
 pub answers_are_exclusive : (query : List (List ℕ)) (forest : Trees Labelled) → is_well_formed forest ≡ true → (x : List ℤ) → Contains (elca query (worded forest)) x ↔ IsExclusive query (worded forest) x
 answers_are_exclusive query forest g x =
     let l = labels_of forest g in (
-      λ c. let v = within_from (elca query (worded forest)) x c in record {
-        full = contains_from (full_nodes query (worded forest)) x (owner_full query (worded forest) x v);
+      λ c. let v = within_of x (elca query (worded forest)) c in record {
+        full = contains_of x (full_nodes query (worded forest)) (owner_full query (worded forest) x v);
         words = occurrences query (worded forest) x query (answer_owns query [] None forest l x v);
       },
-      λ m. contains_from (elca query (worded forest)) x (owner_answers query [] None forest l x (within_from (full_nodes query (worded forest)) x m.full) (each_owned query (worded forest) x query m.words)),
+      λ m. contains_of x (elca query (worded forest)) (owner_answers query [] None forest l x (within_of x (full_nodes query (worded forest)) m.full) (each_owned query (worded forest) x query m.words)),
     )

@@ -10,10 +10,8 @@ use Rattle.mm_label.specs.Label.{is_segment}
 use Rattle.mm_tree.specs.Trees.{Trees, none, node, Tree, one, every, has_some, levels}
 use Rattle.mm_tree.specs.Numbering.{Labelled}
 use Rattle.mm_tree.specs.Forests.{segment_below, rises, is_child_label, are_labelled, are_elements, and_then, last_segment}
+use Rattle.mm_tree.specs.Facts.Formed.{Parts, parts}
 use Rattle.mm_tree.specs.Validity.{is_element}
-
-pub front_splits : (parent label : List ℤ) → starts_with int_eq label parent ≡ true → label ≡ parent ++ segment_below parent label
-front_splits parent label = (starts_is Decides-int_eq label parent (starts_with int_eq label parent) refl).0
 
 pub front_is : (parent label rest : List ℤ) → label ≡ parent ++ rest → starts_with int_eq label parent ≡ true
 front_is parent label rest = (starts_is Decides-int_eq label parent (starts_with int_eq label parent) refl).1 rest
@@ -27,23 +25,6 @@ pub child_ok : (y s label : List ℤ) (left : Option (List ℤ)) → label ≡ y
 child_ok y s label left e w r =
     let t : segment_below y label ≡ s = ap (λ z. drop (length y) z) e ∙ drop_front y s in
     (and_from (starts_with int_eq label y) _ (front_is y label s e) (and_from (is_segment (segment_below y label)) _ (ap (λ z. is_segment z) t ∙ w) (ap (λ z. rises left z) t ∙ r)), t)
-
--- the parts of labelled siblings
-pub record Parts (y : List ℤ) (left : Option (List ℤ)) (e : Labelled) (inner rest : Trees Labelled) : Type 0 where
-  pub front : starts_with int_eq e.label y ≡ true
-  pub whole : is_segment (segment_below y e.label) ≡ true
-  pub above : rises left (segment_below y e.label) ≡ true
-  pub below : are_labelled e.label None inner ≡ true
-  pub after : are_labelled y (Some (segment_below y e.label)) rest ≡ true
-
-pub parts : (y : List ℤ) (left : Option (List ℤ)) (e : Labelled) (inner rest : Trees Labelled) → are_labelled y left (node e inner rest) ≡ true → Parts y left e inner rest
-parts y left e inner rest l =
-    let s = segment_below y e.label in
-    let p = and_parts (is_child_label y left e.label) (are_labelled e.label None inner && are_labelled y (Some s) rest) l in
-    let q = and_parts (are_labelled e.label None inner) (are_labelled y (Some s) rest) p.1 in
-    let c = and_parts (starts_with int_eq e.label y) (is_segment s && rises left s) p.0 in
-    let d = and_parts (is_segment s) (rises left s) c.1 in
-    record { front = c.0; whole = d.0; above = d.1; below = q.0; after = q.1 }
 
 pub whole_of : (y : List ℤ) (left : Option (List ℤ)) (e : Labelled) (inner rest : Trees Labelled) → Parts y left e inner rest → are_labelled y left (node e inner rest) ≡ true
 whole_of y left e inner rest p =

@@ -7,7 +7,7 @@ use Rattle.std.proofs.lemmas.Bool.{leb-true, le-leb, lt-leb, and_from, and_parts
 use Rattle.mm_label.specs.Bytes.{bytes_of}
 use Rattle.mm_label.specs.Label.{is_odd, is_empty, is_segment, is_in_range, all_in_range, last_odd, IsLabel, IsLastSegment, IsBefore}
 use Rattle.mm_label.specs.Between.{between, first_out, LiesBetween}
-use Rattle.mm_label.specs.Answers.{RefusesSegment, RefusesLabel}
+use Rattle.mm_label.specs.Refusals.{RefusesSegment, RefusesLabel}
 use Rattle.mm_label.specs.declared.LabelError.{LabelError}
 use Rattle.mm_label.specs.declared.LabelError.TheVariants as label_error
 use Rattle.mm_tree.specs.declared.refusal.TreeError.{TreeError}
@@ -24,7 +24,8 @@ use Rattle.mm_tree.specs.Refusals.{of_label}
 use Rattle.mm_tree.specs.Validity.{is_element, is_valid_node, is_valid_tree}
 use Rattle.mm_tree.specs.Numbering.{Labelled, node_of, node_step, forest_of, number, fits, has_room, Labels, Numbers}
 use Rattle.mm_tree.specs.Forests.{rises, are_labelled, has_valid_kind, are_elements, is_well_formed, and_then, last_segment, next_label, numbered_behind, load, load_refusal, IsRefusal}
-use Rattle.mm_tree.proofs.LabelledLaws.{parts, at_end, every_behind, elements_behind, levels-and_then}
+use Rattle.mm_tree.proofs.LabelledLaws.{at_end, every_behind, elements_behind, levels-and_then}
+use Rattle.mm_tree.specs.Facts.Formed.{parts}
 use Rattle.mm_tree.proofs.NumberForm.{number_form, levels-number, valid_numbered}
 
 -- ---- labels that don't fit

@@ -4,8 +4,8 @@ use Rattle.std.specs.Prelude.{ℤ, Option, Some, None, IfSome, IsTrue, if◌then
 use Rattle.std.specs.List.{starts_with}
 use Rattle.std.specs.Ordering.{int_eq}
 use Rattle.std.proofs.lemmas.Bool.{and_from, and_parts}
-use Rattle.mm_label.specs.Label.{is_odd, is_empty, is_segment, is_in_range, all_in_range, last_odd}
-use Rattle.mm_label.specs.Answers.{RefusesSegment}
+use Rattle.mm_label.specs.Label.{is_odd, is_empty, is_segment, is_in_range, all_in_range, last_odd, is_child}
+use Rattle.mm_label.specs.Refusals.{RefusesSegment}
 use Rattle.mm_label.specs.declared.LabelError.{LabelError}
 use Rattle.mm_label.specs.declared.LabelError.TheVariants as label_error
 use Rattle.mm_tree.specs.Refusals.{of_label}
@@ -16,8 +16,8 @@ use Rattle.mm_tree.specs.Trees.{Trees, none, node}
 use Rattle.mm_tree.specs.Numbering.{Labelled, Labels}
 use Rattle.mm_tree.specs.Forests.{segment_below, rises, are_labelled}
 use Rattle.mm_tree.specs.Edits.{has_label, Gap, first_label, last_label, gap_at}
-use Rattle.mm_tree.specs.Ways.{leads_to, gap_down, is_below, IsOpen, EndsIn}
-use Rattle.mm_tree.proofs.LabelledLaws.{front_splits, Parts, parts}
+use Rattle.mm_tree.specs.Ways.{leads_to, gap_down, IsOpen, EndsIn}
+use Rattle.mm_tree.specs.Facts.Formed.{front_splits, Parts, parts}
 use Rattle.mm_tree.proofs.OrderLaws.{before_is}
 use Rattle.mm_tree.proofs.LoadFacts.{alone, out_of_range, no_fit, no_fit_either}
 use Rattle.mm_tree.proofs.FormLaws.{segment_of}
@@ -54,7 +54,7 @@ ends_odd [] (c ∷ s) b h = by_test (is_odd c) s h (λ k. ends_odd [] s false k)
     by_test false s h f = f h
 
 -- the neighbours' last segments are the segments by which they go on from the parent
-pub segments_are : (y : List ℤ) (l s : Option (List ℤ)) → Ends y → IfSome l (λ z. IsTrue (is_below y z)) → EndsIn l s → s ≡ segment_of y l
+pub segments_are : (y : List ℤ) (l s : Option (List ℤ)) → Ends y → IfSome l (λ z. IsTrue (is_child y z)) → EndsIn l s → s ≡ segment_of y l
 segments_are y None None e h k = refl
 segments_are y None (Some s) e h k = absurd k
 segments_are y (Some l) None e h k = absurd k
@@ -65,17 +65,17 @@ segments_are y (Some l) (Some s) e h k =
 
 -- ---- every gap of a well-formed forest is open
 
-below_of : (y : List ℤ) (left : Option (List ℤ)) (e : Labelled) (inner rest : Trees Labelled) → Parts y left e inner rest → is_below y e.label ≡ true
+below_of : (y : List ℤ) (left : Option (List ℤ)) (e : Labelled) (inner rest : Trees Labelled) → Parts y left e inner rest → is_child y e.label ≡ true
 below_of y left e inner rest p = and_from (starts_with int_eq e.label y) _ p.front p.whole
 
 ends_of : (y : List ℤ) (left : Option (List ℤ)) (e : Labelled) (inner rest : Trees Labelled) → Parts y left e inner rest → Ends e.label
 ends_of y left e inner rest p = inr (ap (λ (z : List ℤ). last_odd false z) (front_splits y e.label p.front) ∙ ends_odd y (segment_below y e.label) false p.whole)
 
-first_below : (y : List ℤ) (left : Option (List ℤ)) (ts : Trees Labelled) → are_labelled y left ts ≡ true → IfSome (first_label ts) (λ z. IsTrue (is_below y z))
+first_below : (y : List ℤ) (left : Option (List ℤ)) (ts : Trees Labelled) → are_labelled y left ts ≡ true → IfSome (first_label ts) (λ z. IsTrue (is_child y z))
 first_below y left none l = tt
 first_below y left (node e inner rest) l = below_of y left e inner rest (parts y left e inner rest l)
 
-last_below : (y : List ℤ) (left l : Option (List ℤ)) (ts : Trees Labelled) → are_labelled y left ts ≡ true → IfSome l (λ z. IsTrue (is_below y z)) → IfSome (last_label l ts) (λ z. IsTrue (is_below y z))
+last_below : (y : List ℤ) (left l : Option (List ℤ)) (ts : Trees Labelled) → are_labelled y left ts ≡ true → IfSome l (λ z. IsTrue (is_child y z)) → IfSome (last_label l ts) (λ z. IsTrue (is_child y z))
 last_below y left l none k h = h
 last_below y left l (node e inner rest) k h =
     let p = parts y left e inner rest k in
@@ -93,7 +93,7 @@ then_first : (y s : List ℤ) (ts : Trees Labelled) → are_labelled y (Some s) 
 then_first y s none l = tt
 then_first y s (node e inner rest) l = let p = parts y (Some s) e inner rest l in before_is s (segment_below y e.label) p.above
 
-open_at : (p : Place) (y : List ℤ) (l : Option (List ℤ)) (e : Labelled) (inner rest : Trees Labelled) → Ends y → IfSome l (λ z. IsTrue (is_below y z)) → are_labelled y (segment_of y l) (node e inner rest) ≡ true → IsOpen (gap_at p y l e inner rest)
+open_at : (p : Place) (y : List ℤ) (l : Option (List ℤ)) (e : Labelled) (inner rest : Trees Labelled) → Ends y → IfSome l (λ z. IsTrue (is_child y z)) → are_labelled y (segment_of y l) (node e inner rest) ≡ true → IsOpen (gap_at p y l e inner rest)
 open_at Before y l e inner rest a b k =
     let q = parts y (segment_of y l) e inner rest k in
     record { parent = a; left = b; right = below_of y (segment_of y l) e inner rest q; ordered = risen (segment_of y l) (segment_below y e.label) q.above }
@@ -110,7 +110,7 @@ open_at Last y l e inner rest a b k =
 some_gap : (a b : Gap) → Some a ≡ Some b → a ≡ b
 some_gap a b e = cc
 
-pub gap_open : (p : Place) (x y : List ℤ) (l : Option (List ℤ)) (ts : Trees Labelled) (g : Gap) → Ends y → IfSome l (λ z. IsTrue (is_below y z)) → are_labelled y (segment_of y l) ts ≡ true
+pub gap_open : (p : Place) (x y : List ℤ) (l : Option (List ℤ)) (ts : Trees Labelled) (g : Gap) → Ends y → IfSome l (λ z. IsTrue (is_child y z)) → are_labelled y (segment_of y l) ts ≡ true
     → gap_down p x y l ts ≡ Some g → IsOpen g
 gap_open p x y l none g a b k h = absurd cc
 gap_open p x y l (node e inner rest) g a b k h =

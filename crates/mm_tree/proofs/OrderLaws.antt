@@ -16,7 +16,7 @@ use Rattle.mm_tree.specs.Trees.{Trees, none, node, preorder}
 use Rattle.mm_tree.specs.Numbering.{Labelled}
 use Rattle.mm_tree.specs.Forests.{segment_below, is_before, rises, are_labelled, is_well_formed}
 use Rattle.mm_tree.specs.Order.{labels}
-use Rattle.mm_tree.proofs.LabelledLaws.{front_splits, parts}
+use Rattle.mm_tree.specs.Facts.Formed.{front_splits, parts}
 
 -- ---- the order of lists
 

@@ -3,6 +3,8 @@ use Rattle.std.proofs.Common.{◌≡◌, refl, sym, subst, ℕ, ◌⊎◌, inl, 
 use Rattle.std.specs.Prelude.{ℤ, None}
 use Rattle.std.proofs.lemmas.Bool.{and_from, and_parts}
 use Rattle.mm_label.specs.Label.{IsBefore}
+use Rattle.mm_label.specs.Fronts.{Within}
+use Rattle.mm_label.specs.Facts.Members.{contains_of, within_of, within_joined, within_first, within_second}
 use Rattle.mm_tree.specs.Trees.{Trees, none, node}
 use Rattle.mm_tree.specs.Numbering.{Labelled}
 use Rattle.mm_tree.specs.Forests.{is_well_formed}
@@ -12,7 +14,7 @@ use Rattle.mm_tree.specs.Elca.{outside, owns, elca}
 use Rattle.mm_tree.specs.Smallest.{full_nodes}
 use Rattle.mm_tree.proofs.OrderLaws.{Each, Rise, rise, pairs_from, labels_node}
 use Rattle.mm_tree.proofs.OwnerFacts.{outside_holds}
-use Rattle.mm_tree.proofs.SmallestLaws.{Within, within_from, contains_from, in_joined, in_left, in_right, full_here, full_inside, full_behind}
+use Rattle.mm_tree.proofs.SmallestLaws.{full_here, full_inside, full_behind}
 use Rattle.mm_tree.proofs.SearchFacts.{part}
 use Rattle.mm_tree.proofs.WayLaws.{labels_of}
 
@@ -66,22 +68,22 @@ mine_only query e inner x w = by (owns query query e inner) refl w
 
 smallest_owns : (query : List (List ℕ)) (ts : Trees Worded) (x : List ℤ) → Within x (slca query ts) → Within x (elca query ts)
 smallest_owns query none x w = w
-smallest_owns query (node e inner rest) x w = elim (in_joined x (part query e inner) (slca query rest) w) [
+smallest_owns query (node e inner rest) x w = elim (within_joined x (part query e inner) (slca query rest) w) [
   | inl p ↦ by (is_full query e inner) (some_full query inner) refl refl p (λ v. smallest_owns query inner x v)
-  | inr r ↦ in_right x (mine query e inner) (elca query inner ++ elca query rest) (in_right x (elca query inner) (elca query rest) (smallest_owns query rest x r))
+  | inr r ↦ within_second x (mine query e inner) (elca query inner ++ elca query rest) (within_second x (elca query inner) (elca query rest) (smallest_owns query rest x r))
 ]
   where
     by : (f s : Bool) → is_full query e inner ≡ f → some_full query inner ≡ s → Within x (cond f (cond s (slca query inner) (e.label ∷ [])) []) → (Within x (slca query inner) → Within x (elca query inner)) → Within x (elca query (node e inner rest))
-    by true true f s v up = in_right x (mine query e inner) (elca query inner ++ elca query rest) (in_left x (elca query inner) (elca query rest) (up v))
-    by true false f s (inl k) up = in_left x (mine query e inner) (elca query inner ++ elca query rest) (subst (λ y. Within y (mine query e inner)) (sym k) (mine_is query e inner (full_owns query query e inner s f)))
+    by true true f s v up = within_second x (mine query e inner) (elca query inner ++ elca query rest) (within_first x (elca query inner) (elca query rest) (up v))
+    by true false f s (inl k) up = within_first x (mine query e inner) (elca query inner ++ elca query rest) (subst (λ y. Within y (mine query e inner)) (sym k) (mine_is query e inner (full_owns query query e inner s f)))
     by true false f s (inr v) up = absurd v
     by false s f k v up = absurd v
 
 pub owner_full : (query : List (List ℕ)) (ts : Trees Worded) (x : List ℤ) → Within x (elca query ts) → Within x (full_nodes query ts)
 owner_full query none x w = w
-owner_full query (node e inner rest) x w = elim (in_joined x (mine query e inner) (elca query inner ++ elca query rest) w) [
+owner_full query (node e inner rest) x w = elim (within_joined x (mine query e inner) (elca query inner ++ elca query rest) w) [
   | inl m ↦ let k = mine_only query e inner x m in subst (λ y. Within y (full_nodes query (node e inner rest))) (sym k.1) (full_here query e inner rest (owns_full query query e inner k.0))
-  | inr v ↦ elim (in_joined x (elca query inner) (elca query rest) v) [
+  | inr v ↦ elim (within_joined x (elca query inner) (elca query rest) v) [
     | inl i ↦ full_inside query e inner rest x (owner_full query inner x i)
     | inr r ↦ full_behind query e inner rest x (owner_full query rest x r)
   ]
@@ -134,10 +136,10 @@ owners_of query (node e inner rest) =
 -- ---- the laws
 
 pub smallest_are_exclusive : (query : List (List ℕ)) (forest : Trees Labelled) (x : List ℤ) → Contains (slca query (worded forest)) x → Contains (elca query (worded forest)) x
-smallest_are_exclusive query forest x c = contains_from _ x (smallest_owns query (worded forest) x (within_from _ x c))
+smallest_are_exclusive query forest x c = contains_of x _ (smallest_owns query (worded forest) x (within_of x _ c))
 
 pub exclusive_are_full : (query : List (List ℕ)) (forest : Trees Labelled) (x : List ℤ) → Contains (elca query (worded forest)) x → Contains (full_nodes query (worded forest)) x
-exclusive_are_full query forest x c = contains_from _ x (owner_full query (worded forest) x (within_from _ x c))
+exclusive_are_full query forest x c = contains_of x _ (owner_full query (worded forest) x (within_of x _ c))
 
 pub exclusive_rise : (query : List (List ℕ)) (forest : Trees Labelled) → is_well_formed forest ≡ true → AllPairs IsBefore (elca query (worded forest))
 exclusive_rise query forest g = pairs_from (elca query (worded forest)) (rise_of (elca query (worded forest)) (labels forest) (owners_of query forest) (rise [] None forest (labels_of forest g)))

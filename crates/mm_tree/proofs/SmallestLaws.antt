@@ -1,53 +1,26 @@
 -- The answers of a search are the smallest full nodes.
-use Rattle.std.proofs.Common.{◌≡◌, refl, ap, ap₂, sym, ◌∙◌, subst, ℕ, zero, suc, ◌<◌, ◌⊎◌, inl, inr, Bool, true, false, cond, ◌||◌, List, [], ◌∷◌, ◌++◌, length, append_assoc, append-nil, arith, ◌↔◌, Contains, AllPairs, slice_index_or}
+use Rattle.std.proofs.Common.{◌≡◌, refl, ap, ap₂, sym, ◌∙◌, subst, ℕ, ◌⊎◌, inl, inr, Bool, true, false, cond, ◌||◌, List, [], ◌∷◌, ◌++◌, append_assoc, append-nil, ◌↔◌, Contains, AllPairs}
 use Rattle.std.specs.Prelude.{ℤ, Option, Some, None}
 use Rattle.std.proofs.lemmas.Slice.Eq.{slice_eq-Decides}
 use Rattle.std.proofs.lemmas.Bool.Decides.{Decides-int_eq}
 use Rattle.std.proofs.Math.Bool.{or-true}
 use Rattle.mm_label.specs.Label.{is_segment, IsBefore, IsAncestorOrSelf}
+use Rattle.mm_label.specs.Fronts.{Within}
+use Rattle.mm_label.specs.Facts.Fronts.{front_refl, front_trans}
+use Rattle.mm_label.specs.Facts.Order.{splits}
+use Rattle.mm_label.specs.Facts.Members.{contains_of, within_of, within_joined, within_first, within_second}
 use Rattle.mm_tree.specs.Trees.{Trees, none, node}
 use Rattle.mm_tree.specs.Numbering.{Labelled}
 use Rattle.mm_tree.specs.Forests.{segment_below, is_before, are_labelled, is_well_formed}
 use Rattle.mm_tree.specs.Edits as edits
 use Rattle.mm_tree.specs.Search.{Worded, own, worded, is_full, some_full, slca}
 use Rattle.mm_tree.specs.Smallest.{full_nodes, IsSmallest, HasAnswer}
-use Rattle.mm_tree.proofs.LabelledLaws.{front_splits, Parts, parts}
+use Rattle.mm_tree.specs.Facts.Formed.{front_splits, Parts, parts}
 use Rattle.mm_tree.proofs.OrderLaws.{Under, Each, Rise, rises_more, rise_behind, pairs_from, side_after}
 use Rattle.mm_tree.proofs.WayLaws.{before_irreflexive, one_segment, cancel, labels_of}
 use Rattle.mm_tree.proofs.SearchFacts.{full_of_child, part}
 
 -- ---- members of lists
-
-abbrev pub Within : List ℤ → List (List ℤ) → Type 0
-Within x [] = ⊥
-Within x (y ∷ ys) = (x ≡ y) ⊎ Within x ys
-
-within_at : (xs : List (List ℤ)) (x : List ℤ) (k : ℕ) → k < length xs → slice_index_or xs k x ≡ x → Within x xs
-within_at [] x k h e = absurd (omega (arith, h))
-within_at (y ∷ ys) x zero h e = inl (sym e)
-within_at (y ∷ ys) x (suc k) h e = inr (within_at ys x k (omega (arith, h)) e)
-
-pub within_from : (xs : List (List ℤ)) (x : List ℤ) → Contains xs x → Within x xs
-within_from xs x c = within_at xs x c.0 c.1 c.2
-
-pub contains_from : (xs : List (List ℤ)) (x : List ℤ) → Within x xs → Contains xs x
-contains_from [] x w = absurd w
-contains_from (y ∷ ys) x (inl e) = (0, omega arith, sym e)
-contains_from (y ∷ ys) x (inr w) = let c = contains_from ys x w in (suc c.0, omega (arith, c.1), c.2)
-
-pub in_joined : (x : List ℤ) (xs ys : List (List ℤ)) → Within x (xs ++ ys) → Within x xs ⊎ Within x ys
-in_joined x [] ys w = inr w
-in_joined x (z ∷ xs) ys (inl e) = inl (inl e)
-in_joined x (z ∷ xs) ys (inr w) = elim (in_joined x xs ys w) [ inl v ↦ inl (inr v) | inr v ↦ inr v ]
-
-pub in_left : (x : List ℤ) (xs ys : List (List ℤ)) → Within x xs → Within x (xs ++ ys)
-in_left x [] ys w = absurd w
-in_left x (z ∷ xs) ys (inl e) = inl e
-in_left x (z ∷ xs) ys (inr w) = inr (in_left x xs ys w)
-
-pub in_right : (x : List ℤ) (xs ys : List (List ℤ)) → Within x ys → Within x (xs ++ ys)
-in_right x [] ys w = w
-in_right x (z ∷ xs) ys w = inr (in_right x xs ys w)
 
 each_from : (P : List ℤ → Type 0) (xs : List (List ℤ)) → ((x : List ℤ) → Within x xs → P x) → Each P xs
 each_from P [] f = tt
@@ -66,17 +39,17 @@ full_cases query e inner rest x w = by_test (is_full query e inner) refl w
     by_test : (b : Bool) → is_full query e inner ≡ b → Within x (cond b (e.label ∷ []) [] ++ (full_nodes query inner ++ full_nodes query rest))
         → ((is_full query e inner ≡ true) × (x ≡ e.label)) ⊎ (Within x (full_nodes query inner) ⊎ Within x (full_nodes query rest))
     by_test true f (inl g) = inl (f, g)
-    by_test true f (inr v) = inr (in_joined x (full_nodes query inner) (full_nodes query rest) v)
-    by_test false f v = inr (in_joined x (full_nodes query inner) (full_nodes query rest) v)
+    by_test true f (inr v) = inr (within_joined x (full_nodes query inner) (full_nodes query rest) v)
+    by_test false f v = inr (within_joined x (full_nodes query inner) (full_nodes query rest) v)
 
 pub full_here : (query : List (List ℕ)) (e : Worded) (inner rest : Trees Worded) → is_full query e inner ≡ true → Within e.label (full_nodes query (node e inner rest))
 full_here query e inner rest f = subst (λ b. Within e.label (cond b (e.label ∷ []) [] ++ (full_nodes query inner ++ full_nodes query rest))) (sym f) (inl refl)
 
 pub full_inside : (query : List (List ℕ)) (e : Worded) (inner rest : Trees Worded) (x : List ℤ) → Within x (full_nodes query inner) → Within x (full_nodes query (node e inner rest))
-full_inside query e inner rest x w = in_right x (cond (is_full query e inner) (e.label ∷ []) []) _ (in_left x (full_nodes query inner) (full_nodes query rest) w)
+full_inside query e inner rest x w = within_second x (cond (is_full query e inner) (e.label ∷ []) []) _ (within_first x (full_nodes query inner) (full_nodes query rest) w)
 
 pub full_behind : (query : List (List ℕ)) (e : Worded) (inner rest : Trees Worded) (x : List ℤ) → Within x (full_nodes query rest) → Within x (full_nodes query (node e inner rest))
-full_behind query e inner rest x w = in_right x (cond (is_full query e inner) (e.label ∷ []) []) _ (in_right x (full_nodes query inner) (full_nodes query rest) w)
+full_behind query e inner rest x w = within_second x (cond (is_full query e inner) (e.label ∷ []) []) _ (within_second x (full_nodes query inner) (full_nodes query rest) w)
 
 -- the answers of a tree are those below its root, or else the root
 part_cases : (query : List (List ℕ)) (e : Worded) (inner : Trees Worded) (x : List ℤ) → Within x (part query e inner)
@@ -110,7 +83,7 @@ full_root query (node e inner rest) x w = elim (full_cases query e inner rest x 
 -- an answer is full
 answer_full : (query : List (List ℕ)) (ts : Trees Worded) (x : List ℤ) → Within x (slca query ts) → Within x (full_nodes query ts)
 answer_full query none x w = absurd w
-answer_full query (node e inner rest) x w = elim (in_joined x (part query e inner) (slca query rest) w) [
+answer_full query (node e inner rest) x w = elim (within_joined x (part query e inner) (slca query rest) w) [
   | inl p ↦ let q = part_cases query e inner x p in elim q.1 [
     | inl i ↦ full_inside query e inner rest x (answer_full query inner x i.1)
     | inr h ↦ subst (λ z. Within z (full_nodes query (node e inner rest))) (sym h.1) (full_here query e inner rest q.0)
@@ -125,9 +98,9 @@ some_answer query (node e inner rest) h = by_tests (is_full query e inner) (some
   where
     by_tests : (b c : Bool) → is_full query e inner ≡ b → some_full query inner ≡ c → (b || some_full query rest) ≡ true → (some_full query inner ≡ true → (x : List ℤ) × Within x (slca query inner)) → (some_full query rest ≡ true → (x : List ℤ) × Within x (slca query rest))
         → (x : List ℤ) × Within x (slca query (node e inner rest))
-    by_tests true true f g k i r = let a = i g in (a.0, in_left a.0 (part query e inner) (slca query rest) (part_inside query e inner a.0 f g a.1))
-    by_tests true false f g k i r = (e.label, in_left e.label (part query e inner) (slca query rest) (part_here query e inner f g))
-    by_tests false c f g k i r = let a = r k in (a.0, in_right a.0 (part query e inner) (slca query rest) a.1)
+    by_tests true true f g k i r = let a = i g in (a.0, within_first a.0 (part query e inner) (slca query rest) (part_inside query e inner a.0 f g a.1))
+    by_tests true false f g k i r = (e.label, within_first e.label (part query e inner) (slca query rest) (part_here query e inner f g))
+    by_tests false c f g k i r = let a = r k in (a.0, within_second a.0 (part query e inner) (slca query rest) a.1)
 
 -- ---- labels
 
@@ -180,32 +153,31 @@ no_clash y s r t n p q less e =
 pub not_behind : (y : List ℤ) (left : Option (List ℤ)) (e : Labelled) (inner rest : Trees Labelled) → Parts y left e inner rest → (x z : List ℤ) → Under y (Some (segment_below y e.label)) x → IsAncestorOrSelf e.label z → IsAncestorOrSelf x z → ⊥
 not_behind y left e inner rest p x z u a b =
     let s = segment_below y e.label in
+    let a = (splits e.label z).0 a in
+    let b = (splits x z).0 b in
     no_clash y s a.0 u.segment (u.more ++ b.0) p.whole u.whole u.above
     (sym (a.1 ∙ ap (λ w. w ++ a.0) (front_splits y e.label p.front) ∙ append_assoc y s a.0)
     ∙ b.1 ∙ ap (λ w. w ++ b.0) u.is ∙ append_assoc y (u.segment ++ u.more) b.0 ∙ ap (λ w. y ++ w) (append_assoc u.segment u.more b.0))
 
 -- a node is not below one below it
 pub not_above : (y x : List ℤ) → Under y None x → IsAncestorOrSelf x y → ⊥
-not_above y x u a = by_segment u.segment u.whole (cancel y [] ((u.segment ++ u.more) ++ a.0) (append-nil y ∙ a.1 ∙ ap (λ w. w ++ a.0) u.is ∙ append_assoc y (u.segment ++ u.more) a.0))
+not_above y x u a = by_segment u.segment u.whole (cancel y [] ((u.segment ++ u.more) ++ rest.0) (append-nil y ∙ rest.1 ∙ ap (λ w. w ++ rest.0) u.is ∙ append_assoc y (u.segment ++ u.more) rest.0))
   where
-    by_segment : (s : List ℤ) → is_segment s ≡ true → [] ≡ (s ++ u.more) ++ a.0 → ⊥
+    rest : (r : List ℤ) × (y ≡ x ++ r)
+    rest = (splits x y).0 a
+
+    by_segment : (s : List ℤ) → is_segment s ≡ true → [] ≡ (s ++ u.more) ++ rest.0 → ⊥
     by_segment [] w e = true_false (sym w)
     by_segment (c ∷ s) w e = absurd cc
 
-pub itself : (x : List ℤ) → IsAncestorOrSelf x x
-itself x = ([], sym (append-nil x))
-
 pub below : (y x : List ℤ) → Under y None x → IsAncestorOrSelf y x
-below y x u = (u.segment ++ u.more, u.is)
-
-pub through : (x y z : List ℤ) → IsAncestorOrSelf x y → IsAncestorOrSelf y z → IsAncestorOrSelf x z
-through x y z a b = (a.0 ++ b.0, b.1 ∙ ap (λ w. w ++ b.0) a.1 ∙ append_assoc x a.0 b.0)
+below y x u = (splits y x).1 (u.segment ++ u.more, u.is)
 
 -- the label of an answer in a tree goes on from its root's
 part_below : (query : List (List ℕ)) (e : Labelled) (inner : Trees Labelled) → are_labelled e.label None inner ≡ true → (x : List ℤ) → Within x (part query (seen e) (worded inner)) → IsAncestorOrSelf e.label x
 part_below query e inner l x w = elim (part_cases query (seen e) (worded inner) x w).1 [
   | inl i ↦ below e.label x (full_under query e.label None inner l x (answer_full query (worded inner) x i.1))
-  | inr h ↦ subst (λ z. IsAncestorOrSelf e.label z) (sym h.1) (itself e.label)
+  | inr h ↦ subst (λ z. IsAncestorOrSelf e.label z) (sym h.1) (front_refl e.label)
 ]
 
 -- ---- each full node has an answer at or below it
@@ -219,8 +191,8 @@ reached_at query e inner rest l f = by_test (some_full query (worded inner)) ref
     by_test : (b : Bool) → some_full query (worded inner) ≡ b → Reached query (node (seen e) (worded inner) rest) e.label
     by_test true g =
         let a = some_answer query (worded inner) g in
-        (a.0, in_left a.0 (part query (seen e) (worded inner)) (slca query rest) (part_inside query (seen e) (worded inner) a.0 f g a.1), below e.label a.0 (full_under query e.label None inner l a.0 (answer_full query (worded inner) a.0 a.1)))
-    by_test false g = (e.label, in_left e.label (part query (seen e) (worded inner)) (slca query rest) (part_here query (seen e) (worded inner) f g), itself e.label)
+        (a.0, within_first a.0 (part query (seen e) (worded inner)) (slca query rest) (part_inside query (seen e) (worded inner) a.0 f g a.1), below e.label a.0 (full_under query e.label None inner l a.0 (answer_full query (worded inner) a.0 a.1)))
+    by_test false g = (e.label, within_first e.label (part query (seen e) (worded inner)) (slca query rest) (part_here query (seen e) (worded inner) f g), front_refl e.label)
 
 covers : (query : List (List ℕ)) (y : List ℤ) (left : Option (List ℤ)) (ts : Trees Labelled) → are_labelled y left ts ≡ true → (z : List ℤ) → Within z (full_nodes query (worded ts)) → Reached query (worded ts) z
 covers query y left none l z w = absurd w
@@ -234,8 +206,8 @@ covers query y left (node e inner rest) l z w =
         | inl i ↦
             let a = covers query e.label None inner p.below z i in
             let g = full_root query I z i in
-            (a.0, in_left a.0 (part query (seen e) I) (slca query R) (part_inside query (seen e) I a.0 (full_of_child query (seen e) I g) g a.1), a.2)
-        | inr r ↦ let a = covers query y (Some (segment_below y e.label)) rest p.after z r in (a.0, in_right a.0 (part query (seen e) I) (slca query R) a.1, a.2)
+            (a.0, within_first a.0 (part query (seen e) I) (slca query R) (part_inside query (seen e) I a.0 (full_of_child query (seen e) I g) g a.1), a.2)
+        | inr r ↦ let a = covers query y (Some (segment_below y e.label)) rest p.after z r in (a.0, within_second a.0 (part query (seen e) I) (slca query R) a.1, a.2)
       ]
     ]
 
@@ -250,7 +222,7 @@ lowest query y left (node e inner rest) l x z v w a =
     let R = worded rest in
     let behind : (t : List ℤ) → Within t (full_nodes query R) → Under y (Some s) t = full_under query y (Some s) rest p.after in
     let inside : (t : List ℤ) → Within t (full_nodes query I) → Under e.label None t = full_under query e.label None inner p.below in
-    elim (in_joined x (part query (seen e) I) (slca query R) v) [
+    elim (within_joined x (part query (seen e) I) (slca query R) v) [
       | inl t ↦
           let from_root : IsAncestorOrSelf e.label x = part_below query e inner p.below x t in
           elim (part_cases query (seen e) I x t).1 [
@@ -258,21 +230,21 @@ lowest query y left (node e inner rest) l x z v w a =
               | inl h ↦ absurd (not_above e.label x (inside x (answer_full query I x i.1)) (subst (λ k. IsAncestorOrSelf x k) h.1 a))
               | inr j ↦ elim j [
                 | inl k ↦ lowest query e.label None inner p.below x z i.1 k a
-                | inr r ↦ absurd (not_behind y left e inner rest p z z (behind z r) (through e.label x z from_root a) (itself z))
+                | inr r ↦ absurd (not_behind y left e inner rest p z z (behind z r) (front_trans e.label x z from_root a) (front_refl z))
               ]
             ]
             | inr h ↦ elim (full_cases query (seen e) I R z w) [
               | inl g ↦ g.1 ∙ sym h.1
               | inr j ↦ elim j [
                 | inl k ↦ absurd (true_false (sym (full_root query I z k) ∙ h.0))
-                | inr r ↦ absurd (not_behind y left e inner rest p z z (behind z r) (through e.label x z from_root a) (itself z))
+                | inr r ↦ absurd (not_behind y left e inner rest p z z (behind z r) (front_trans e.label x z from_root a) (front_refl z))
               ]
             ]
           ]
       | inr t ↦
           let u : Under y (Some s) x = behind x (answer_full query R x t) in
           elim (full_cases query (seen e) I R z w) [
-            | inl h ↦ absurd (not_behind y left e inner rest p x z u (subst (λ k. IsAncestorOrSelf e.label k) (sym h.1) (itself e.label)) a)
+            | inl h ↦ absurd (not_behind y left e inner rest p x z u (subst (λ k. IsAncestorOrSelf e.label k) (sym h.1) (front_refl e.label)) a)
             | inr j ↦ elim j [
               | inl k ↦ absurd (not_behind y left e inner rest p x z u (below e.label z (inside z k)) a)
               | inr r ↦ lowest query y (Some s) rest p.after x z t r a
@@ -299,7 +271,7 @@ rising query y left (node e inner rest) l =
     let R = worded rest in
     let before : (x z : List ℤ) → Within x (part query (seen e) I) → Within z (slca query R) → IsBefore x z
     = λ x z w v.
-    let a = part_below query e inner p.below x w in
+    let a = (splits e.label x).0 (part_below query e inner p.below x w) in
     subst (λ t. IsBefore t z) (sym (a.1 ∙ ap (λ t. t ++ a.0) (front_splits y e.label p.front) ∙ append_assoc y s a.0))
     (side_after y s a.0 z p.whole (full_under query y (Some s) rest p.after z (answer_full query R z v))) in
     rise_behind (part query (seen e) I) (slca query R) (part_rises query (seen e) I (rising query e.label None inner p.below)) (rising query y (Some s) rest p.after)
@@ -318,31 +290,31 @@ full_has query (node e inner rest) x w = elim (full_cases query (seen e) (worded
 ]
 
 pub answers_are_nodes : (query : List (List ℕ)) (forest : Trees Labelled) (x : List ℤ) → Contains (slca query (worded forest)) x → edits.has x forest ≡ true
-answers_are_nodes query forest x c = full_has query forest x (answer_full query (worded forest) x (within_from _ x c))
+answers_are_nodes query forest x c = full_has query forest x (answer_full query (worded forest) x (within_of x _ c))
 
 pub full_nodes_have_answers : (query : List (List ℕ)) (forest : Trees Labelled) → is_well_formed forest ≡ true → (x : List ℤ) → Contains (full_nodes query (worded forest)) x → HasAnswer query (worded forest) x
 full_nodes_have_answers query forest g x c =
-    let a = covers query [] None forest (labels_of forest g) x (within_from _ x c) in
-    record { answer = a.0; found = contains_from _ a.0 a.1; below = a.2 }
+    let a = covers query [] None forest (labels_of forest g) x (within_of x _ c) in
+    record { answer = a.0; found = contains_of a.0 _ a.1; below = a.2 }
 
 pub answers_are_smallest : (query : List (List ℕ)) (forest : Trees Labelled) → is_well_formed forest ≡ true → (x : List ℤ) → Contains (slca query (worded forest)) x ↔ IsSmallest query (worded forest) x
 answers_are_smallest query forest g x =
     let l = labels_of forest g in (
       λ c.
-          let w = within_from (slca query (worded forest)) x c in record {
-            full = contains_from _ x (answer_full query (worded forest) x w);
-            lowest = λ z d a. lowest query [] None forest l x z w (within_from _ z d) a;
+          let w = within_of x (slca query (worded forest)) c in record {
+            full = contains_of x _ (answer_full query (worded forest) x w);
+            lowest = λ z d a. lowest query [] None forest l x z w (within_of z _ d) a;
           },
       λ m.
           let h = full_nodes_have_answers query forest g x m.full in
-          let is : h.answer ≡ x = m.lowest h.answer (contains_from _ h.answer (answer_full query (worded forest) h.answer (within_from _ h.answer h.found))) h.below in
+          let is : h.answer ≡ x = m.lowest h.answer (contains_of h.answer _ (answer_full query (worded forest) h.answer (within_of h.answer _ h.found))) h.below in
           subst (λ t. Contains (slca query (worded forest)) t) is h.found,
     )
 
 pub answers_are_apart : (query : List (List ℕ)) (forest : Trees Labelled) → is_well_formed forest ≡ true → (x y : List ℤ) → Contains (slca query (worded forest)) x → Contains (slca query (worded forest)) y → IsAncestorOrSelf x y → y ≡ x
 answers_are_apart query forest g x y c d a =
-    let w = within_from (slca query (worded forest)) y d in
-    lowest query [] None forest (labels_of forest g) x y (within_from _ x c) (answer_full query (worded forest) y w) a
+    let w = within_of y (slca query (worded forest)) d in
+    lowest query [] None forest (labels_of forest g) x y (within_of x _ c) (answer_full query (worded forest) y w) a
 
 pub answers_rise : (query : List (List ℕ)) (forest : Trees Labelled) → is_well_formed forest ≡ true → AllPairs IsBefore (slca query (worded forest))
 answers_rise query forest g = pairs_from (slca query (worded forest)) (rising query [] None forest (labels_of forest g))

@@ -2,7 +2,7 @@
 use Rattle.std.proofs.Common.{◌≡◌, refl, sym, ◌∙◌, ap, ℕ, ◌+◌, ◌-◌, ◌≤◌, Bool, true, false, ◌&&◌, not, List, []}
 use Rattle.std.specs.Prelude.{ℤ, Option, Some, None, IsTrue, IfSome, if◌then◌else◌, nat_le, ◌==◌, option_map}
 use Rattle.std.proofs.lemmas.Bool.{eq-eqb, leb-true, and_parts}
-use Rattle.mm_label.specs.Label.{is_segment, level}
+use Rattle.mm_label.specs.Label.{is_segment, level, is_child}
 use Rattle.mm_label.specs.Between.{between, IsOrdered, LiesBetween}
 use Rattle.mm_tree.specs.declared.plain.Kind.{Kind}
 use Rattle.mm_tree.specs.declared.refusal.Refusal.TheVariants.{Absent, Leaf, Top, Deep, Room}
@@ -12,7 +12,7 @@ use Rattle.mm_tree.specs.Validity.{is_element, is_valid_node}
 use Rattle.mm_tree.specs.Numbering.{Labelled, number, fits, has_room}
 use Rattle.mm_tree.specs.Forests.{segment_below, are_labelled, is_well_formed, last_segment, numbered_behind}
 use Rattle.mm_tree.specs.Edits.{has, found, is_text, put, taken_out, put_instead, Gap, gap, left_segment, right_segment, inserted_label, is_inside, placed_refusal}
-use Rattle.mm_tree.specs.Ways.{edit_down, gap_down, is_below, IsOpen}
+use Rattle.mm_tree.specs.Ways.{edit_down, gap_down, IsOpen}
 use Rattle.mm_tree.specs.Staying.{LoadStaysFormed, InsertStaysFormed, DeleteStaysFormed, ReplaceStaysFormed}
 use Rattle.mm_tree.proofs.WayLaws.{edit_is, gap_is, labels_of}
 use Rattle.mm_tree.proofs.LoadFacts.{last_whole, load_formed}
@@ -75,7 +75,7 @@ load_stays lies t forest w v h =
 
 -- ---- an insertion
 
-whole_neighbour : (y : List ℤ) (l : Option (List ℤ)) → IfSome l (λ z. IsTrue (is_below y z)) → IfSome (option_map (λ z. segment_below y z) l) (λ s. IsTrue (is_segment s))
+whole_neighbour : (y : List ℤ) (l : Option (List ℤ)) → IfSome l (λ z. IsTrue (is_child y z)) → IfSome (option_map (λ z. segment_below y z) l) (λ s. IsTrue (is_segment s))
 whole_neighbour y None h = tt
 whole_neighbour y (Some l) h = (and_parts _ (is_segment (segment_below y l)) h).1
 

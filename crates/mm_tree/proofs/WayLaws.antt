@@ -10,13 +10,15 @@ use Rattle.std.proofs.lemmas.Bool.Decides.{Decides-int_eq}
 use Rattle.std.proofs.lemmas.List.{append-nil}
 use Rattle.std.proofs.lemmas.Bool.{and_parts}
 use Rattle.mm_label.specs.Label.{is_odd, is_empty, is_segment, IsAncestorOrSelf}
+use Rattle.mm_label.specs.Facts.Order.{splits}
 use Rattle.mm_tree.specs.Trees.{Trees, none, node, Tree}
 use Rattle.mm_tree.specs.Numbering.{Labelled}
 use Rattle.mm_tree.specs.Forests.{segment_below, is_before, are_labelled, is_well_formed}
 use Rattle.mm_tree.specs.declared.forest.place.Place.{Place}
 use Rattle.mm_tree.specs.Edits.{has_label, has, found, Change, edit, Gap, gap_at, gap}
 use Rattle.mm_tree.specs.Ways.{leads_to, found_down, edit_down, gap_down}
-use Rattle.mm_tree.proofs.LabelledLaws.{front_splits, front_is, parts}
+use Rattle.mm_tree.proofs.LabelledLaws.{front_is}
+use Rattle.mm_tree.specs.Facts.Formed.{front_splits, parts}
 use Rattle.mm_tree.proofs.OrderLaws.{Under, rises_more}
 
 pub label_is : (x : List ℤ) (e : Labelled) → has_label x e ≡ true → e.label ≡ x
@@ -158,7 +160,7 @@ labels_of forest w = (and_parts (are_labelled [] None forest) _ w).0
 
 -- a test that says whether a label is a prefix
 pub leads_is : (b : Bool) (label x : List ℤ) → IsTrue b ↔ IsAncestorOrSelf label x → b ≡ starts_with int_eq x label
-leads_is b label x h = by_tests b (starts_with int_eq x label) (λ k. front_is label x (h.0 k).0 (h.0 k).1) (λ k. h.1 (segment_below label x, front_splits label x k))
+leads_is b label x h = by_tests b (starts_with int_eq x label) (λ k. let r = (splits label x).0 (h.0 k) in front_is label x r.0 r.1) (λ k. h.1 ((splits label x).1 (segment_below label x, front_splits label x k)))
   where
     by_tests : (b c : Bool) → (b ≡ true → c ≡ true) → (c ≡ true → b ≡ true) → b ≡ c
     by_tests true c f g = sym (f refl)

@@ -7,7 +7,7 @@ use Rattle.std.specs.List.{list_any}
 use Rattle.mm_tree.specs.declared.fragment.Fragment.{Fragment}
 use Rattle.mm_tree.specs.declared.fragment.Fragment.TheFolds.{fold-Fragment}
 use Rattle.mm_tree.specs.declared.fragment.Fragment.TheOpen.{Fragment-F}
-use Rattle.mm_tree.specs.Trees.{Trees, none, node, Tree, siblings}
+use Rattle.mm_tree.specs.Trees.{Trees, none, node, each, Tree, siblings}
 use Rattle.mm_tree.specs.Numbering.{Labelled}
 use Rattle.mm_tree.specs.Hits.{name_of}
 use Rattle.mm_tree.specs.Search.{Worded, has, is_full, own}
@@ -23,16 +23,14 @@ abbrev pub named_as : Labelled → Named
 named_as e = record { label = e.label; name = name_of e.kind; words = own e.kind }
 
 abbrev pub named : Trees Labelled → Trees Named
-named none = none
-named (node e inner rest) = node (named_as e) (named inner) (named rest)
+named = each named_as
 
 -- the same without names
 abbrev pub bare : Named → Worded
 bare e = record { label = e.label; words = e.words }
 
 abbrev pub bares : Trees Named → Trees Worded
-bares none = none
-bares (node e inner rest) = node (bare e) (bares inner) (bares rest)
+bares = each bare
 
 -- for each word of the query, whether a node with these children holds it, itself or below it
 abbrev pub row_of : List (List ℕ) → Named → Trees Named → List Bool

@@ -22,3 +22,6 @@ pub mod Fragmenting
 pub mod FragmentRows
 pub mod Examples
 pub mod EditExamples
+pub mod Formed
+pub mod Rebuild
+pub mod Facts

@@ -7,7 +7,7 @@ use Rattle.mm_words.specs.Words.{text_words, name_words}
 use Rattle.mm_tree.specs.declared.plain.Attribute.{Attribute}
 use Rattle.mm_tree.specs.declared.plain.Kind.{Kind}
 use Rattle.mm_tree.specs.declared.plain.Kind.TheVariants.{Element, Words}
-use Rattle.mm_tree.specs.Trees.{Trees, none, node}
+use Rattle.mm_tree.specs.Trees.{Trees, none, node, each}
 use Rattle.mm_tree.specs.Numbering.{Labelled}
 
 abbrev pub attribute_words : Attribute → List (List ℕ)
@@ -23,9 +23,11 @@ pub record Worded : Type 0 where
   pub label : List ℤ
   pub words : List (List ℕ)
 
+abbrev pub worded_as : Labelled → Worded
+worded_as e = record { label = e.label; words = own e.kind }
+
 abbrev pub worded : Trees Labelled → Trees Worded
-worded none = none
-worded (node e inner rest) = node (record { label = e.label; words = own e.kind }) (worded inner) (worded rest)
+worded = each worded_as
 
 -- the word is one of the node's own
 abbrev pub has : Worded → List ℕ → Bool

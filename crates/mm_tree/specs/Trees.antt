@@ -35,6 +35,11 @@ abbrev pub every : {A : Type 0} → (A → Bool → Bool) → Trees A → Bool
 every test none = true
 every test (node a inner rest) = test a (has_some inner) && (every test inner && every test rest)
 
+-- trees of the same shape, with something else at each node
+abbrev pub each : {A B : Type 0} → (A → B) → Trees A → Trees B
+each f none = none
+each f (node a inner rest) = node (f a) (each f inner) (each f rest)
+
 -- a root with two children has three nodes on two levels
 three_nodes : nodes {A = ℕ} (node 1 (node 2 none (node 3 none none)) none) ≡ 3
 three_nodes = refl

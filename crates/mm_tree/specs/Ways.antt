@@ -2,9 +2,9 @@
 use Rattle.std.specs.Prelude.{ℕ, zero, suc, ◌+◌, ◌-◌, nat_lt, ℤ, Bool, true, false, not, ◌&&◌, IsTrue, ◌≡◌, ◌⊎◌, ⊤, IfSome, List, [], ◌∷◌, length, slice_get, Option, Some, None, option_map, if◌then◌else◌}
 use Rattle.std.specs.List.{starts_with}
 use Rattle.std.specs.Ordering.{int_eq}
-use Rattle.mm_label.specs.Label.{is_segment, last_odd, IsSegment, IsLastSegment}
+use Rattle.mm_label.specs.Label.{is_child, last_odd, IsSegment, IsLastSegment}
 use Rattle.mm_label.specs.Between.{IsOrdered}
-use Rattle.mm_label.specs.Answers.{front_of}
+use Rattle.mm_label.specs.Refusals.{front_of}
 use Rattle.mm_tree.specs.declared.node.Node.{Node}
 use Rattle.mm_tree.specs.declared.node.Node.TheViews.{out-Node}
 use Rattle.mm_tree.specs.declared.forest.place.Place.{Place}
@@ -14,7 +14,7 @@ use Rattle.mm_tree.specs.declared.forest.edit.Edit.TheVariants as edits
 use Rattle.mm_tree.specs.declared.forest.opening.Opening.{Opening}
 use Rattle.mm_tree.specs.Trees.{Trees, none, node, Tree, siblings}
 use Rattle.mm_tree.specs.Numbering.{Labelled, node_of}
-use Rattle.mm_tree.specs.Forests.{segment_below, is_before, are_labelled}
+use Rattle.mm_tree.specs.Forests.{is_before, are_labelled}
 use Rattle.mm_tree.specs.Edits.{has_label, Change, taken_out, put_instead, put, Gap, gap_at, left_segment, right_segment}
 
 abbrev pub leads_to : List ℤ → Labelled → Bool
@@ -76,15 +76,11 @@ gap_here place.Last y ns n i = record { parent = (out-Node n).label; left = labe
 
 -- ---- the neighbours of a gap
 
--- the label is y and one segment
-abbrev pub is_below : List ℤ → List ℤ → Bool
-is_below y label = starts_with int_eq label y && is_segment (segment_below y label)
-
 -- the parent's label is nothing or a label, the neighbours' go on from it, and they rise
 pub record IsOpen (g : Gap) : Type 0 where
   pub parent : (g.parent ≡ []) ⊎ (last_odd false g.parent ≡ true)
-  pub left : IfSome g.left (λ l. IsTrue (is_below g.parent l))
-  pub right : IfSome g.right (λ r. IsTrue (is_below g.parent r))
+  pub left : IfSome g.left (λ l. IsTrue (is_child g.parent l))
+  pub right : IfSome g.right (λ r. IsTrue (is_child g.parent r))
   pub ordered : IsOrdered (left_segment g) (right_segment g)
 
 -- this is the last segment of the label, where there is one

@@ -8,7 +8,7 @@ ghost use Rattle.mm_tree.specs.Validity.{is_element, is_valid_tree};
 ghost use Rattle.mm_tree.specs.Forests.{is_well_formed, last_segment, next_label, load, load_refusal, IsRefusal};
 ghost use Rattle.mm_label.specs.Label.{IsSegment};
 ghost use Rattle.mm_label.specs.Between.{LiesBetween};
-ghost use Rattle.mm_label.specs.Answers.{RefusesSegment};
+ghost use Rattle.mm_label.specs.Refusals.{RefusesSegment};
 
 mod changes;
 mod edit;

@@ -1,4 +1,4 @@
 pub mod Words
 pub mod Examples
-pub mod Cuts
 pub mod Refusals
+pub mod Inside

@@ -3,7 +3,7 @@
 ghost use Rattle.std.specs.Prelude.{◌≡◌, ◌≤◌, ◌++◌, IfOk, OnOk, length};
 ghost use Rattle.std.specs.List.{position_or_len};
 ghost use Rattle.mm_words.specs.Words.{text_words, is_cut, name_words, IsSetOf};
-ghost use Rattle.mm_words.specs.Cuts.{CutsOnce};
+ghost use Rattle.mm_words.specs.Inside.Cuts.{CutsOnce};
 
 use crate::fold::fold;
 use crate::word::Word;

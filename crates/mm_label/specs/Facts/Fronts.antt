@@ -203,6 +203,13 @@ is_front_of (x ∷ a) (y ∷ b) f = and_from (int_eq x y) (is_front a b) ((Decid
 pub front_no : (a b : Label) → is_front a b ≡ false → Front a b → ⊥
 front_no a b e f = let k = is_front_of a b f in absurd (cc)
 
+pub not_front : (a b : Label) → (Front a b → ⊥) → is_front a b ≡ false
+not_front a b n = by (is_front a b) refl
+  where
+    by : (t : Bool) → is_front a b ≡ t → t ≡ false
+    by true e = absurd (n (front_yes a b e))
+    by false e = refl
+
 pub front_cases : (a b : Label) → Front a b ⊎ (Front a b → ⊥)
 front_cases [] b = inl tt
 front_cases (x ∷ a) [] = inr (λ f. f)

@@ -24,6 +24,9 @@ ascends_own false x = tt
 pub apart_lt : (a b : Label) → Apart a b → Lt a b
 apart_lt a b p = (p.0, λ e. p.1 (subst (Front a) e (front_refl a)))
 
+pub lt_once : (a b : Label) → Lt a b → Lt b a → ⊥
+lt_once a b p q = p.1 (le_antisym a b p.0 q.0)
+
 pub lt_below : (x m : Label) → Front x m → (m ≡ x → ⊥) → Lt x m
 lt_below x m f n = (front_le x m f, λ e. n (sym e))
 

@@ -3,7 +3,7 @@ use Rattle.std.proofs.Common.{inl, inr, ◌≡◌, ◌⊎◌, Bool, true, false,
 use Rattle.std.specs.Prelude.{slice_index_or}
 use Rattle.std.specs.List.{Contains, list_any}
 use Rattle.std.proofs.lemmas.Bool.{or_right}
-use Rattle.mm_label.specs.Fronts.{Label, Within}
+use Rattle.mm_label.specs.Fronts.{Within}
 
 pub contains_of : {A : Type 0} (x : A) (ms : List A) → Within x ms → Contains ms x
 contains_of x [] w = absurd w
@@ -37,11 +37,11 @@ within_second x (m ∷ ms) back w = inr (within_second x ms back w)
 
 -- ---- of a list of what stands at each
 
-pub within_in : {A : Type 0} (at : A → Label) (x : Label) (xs : List A) → Within x (map at xs) → (p : A) × Within p xs × (x ≡ at p)
+pub within_in : {A B : Type 0} (at : A → B) (x : B) (xs : List A) → Within x (map at xs) → (p : A) × Within p xs × (x ≡ at p)
 within_in at x [] w = absurd w
 within_in at x (m ∷ ms) w = elim w [ inl e ↦ (m, inl refl, e) | inr k ↦ let t = within_in at x ms k in (t.0, inr t.1, t.2) ]
 
-pub in_within : {A : Type 0} (at : A → Label) (p : A) (xs : List A) → Within p xs → Within (at p) (map at xs)
+pub in_within : {A B : Type 0} (at : A → B) (p : A) (xs : List A) → Within p xs → Within (at p) (map at xs)
 in_within at p [] w = absurd w
 in_within at p (m ∷ ms) w = elim w [ inl e ↦ inl (ap at e) | inr k ↦ inr (in_within at p ms k) ]
 

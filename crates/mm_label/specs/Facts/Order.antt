@@ -52,25 +52,25 @@ le_of a b h = elim h [ inl e ↦ subst (Le a) e (front_le a a (front_refl a)) | 
 pub lt_before : (a b : Label) → Lt a b → IsBefore a b
 lt_before a b l = elim (le_before a b l.0) [ inl e ↦ absurd (l.1 e) | inr k ↦ k ]
 
-pub front_of : (a b : Label) → IsAncestorOrSelf a b → Front a b
-front_of [] b h = tt
-front_of (x ∷ a) [] h = let e = h.1 in absurd cc
-front_of (x ∷ a) (y ∷ b) h = let e = h.1 in (cc, front_of a b (h.0, cc))
-
-pub ancestor_of : (a b : Label) → Front a b → IsAncestorOrSelf a b
-ancestor_of [] b f = (b, refl)
-ancestor_of (x ∷ a) [] f = absurd f
-ancestor_of (x ∷ a) (y ∷ b) f = let t = ancestor_of a b f.1 in let e = t.1 in let p = f.0 in (t.0, cc)
-
 -- a front and what comes after it
 pub splits : (a b : Label) → Front a b ↔ ((rest : Label) × (b ≡ a ++ rest))
-splits a b = (ancestor_of a b, front_of a b)
+splits a b = (there a b, back a b)
+  where
+    there : (a b : Label) → Front a b → (rest : Label) × (b ≡ a ++ rest)
+    there [] b f = (b, refl)
+    there (x ∷ a) [] f = absurd f
+    there (x ∷ a) (y ∷ b) f = let t = there a b f.1 in let e = t.1 in let p = f.0 in (t.0, cc)
+
+    back : (a b : Label) → (rest : Label) × (b ≡ a ++ rest) → Front a b
+    back [] b h = tt
+    back (x ∷ a) [] h = let e = h.1 in absurd cc
+    back (x ∷ a) (y ∷ b) h = let e = h.1 in (cc, back a b (h.0, cc))
 
 pub past_apart : (a b : Label) → IsPast a b → Apart a b
-past_apart a b h = ((before_lt a b h.0).0, λ f. h.1 (ancestor_of a b f))
+past_apart a b h = ((before_lt a b h.0).0, h.1)
 
 pub apart_past : (a b : Label) → Apart a b → IsPast a b
-apart_past a b h = (lt_before a b (h.0, λ e. h.1 (subst (Front a) e (front_refl a))), λ f. h.1 (front_of a b f))
+apart_past a b h = (lt_before a b (h.0, λ e. h.1 (subst (Front a) e (front_refl a))), h.1)
 
 -- the test on labels as a recursion
 pub front_test : (t : Bool) (a b : Label) → IsTrue t ↔ IsAncestorOrSelf a b → t ≡ is_front a b
@@ -79,8 +79,8 @@ front_test t a b h = by t (is_front a b) refl refl
     by : (u v : Bool) → t ≡ u → is_front a b ≡ v → t ≡ is_front a b
     by true true e f = e ∙ sym f
     by false false e f = e ∙ sym f
-    by true false e f = absurd (front_no a b f (front_of a b (h.0 e)))
-    by false true e f = let k = h.1 (ancestor_of a b (front_yes a b f)) in absurd cc
+    by true false e f = absurd (front_no a b f (h.0 e))
+    by false true e f = let k = h.1 (front_yes a b f) in absurd cc
 
 -- the order tells labels apart
 pub exact : (a b : Label) → slice_cmp int_cmp a b ≡ Equal → a ≡ b
@@ -99,6 +99,16 @@ same_label a b e = (slice_eq-Decides Decides-int_eq a b (pointwise int_eq a b) r
 
 pub other_label : (a b : Label) → pointwise int_eq a b ≡ false → a ≡ b → ⊥
 other_label a b e f = let t = (slice_eq-Decides Decides-int_eq a b (pointwise int_eq a b) refl).1 f in absurd cc
+
+pub label_same : (a b : Label) → a ≡ b → pointwise int_eq a b ≡ true
+label_same a b e = (slice_eq-Decides Decides-int_eq a b (pointwise int_eq a b) refl).1 e
+
+pub label_other : (a b : Label) → (a ≡ b → ⊥) → pointwise int_eq a b ≡ false
+label_other a b n = by (pointwise int_eq a b) refl
+  where
+    by : (t : Bool) → pointwise int_eq a b ≡ t → t ≡ false
+    by true e = absurd (n (same_label a b e))
+    by false e = refl
 
 pub lt_is : (o : Ordering) → is_lt o ≡ true → o ≡ Less
 lt_is Less e = refl

@@ -1,7 +1,7 @@
 -- Lists in which each stands in a relation to all behind it.
-use Rattle.std.proofs.Common.{inl, inr, ◌≡◌, List, [], ◌∷◌, ◌++◌, refl, sym, subst, ◌∙◌}
+use Rattle.std.proofs.Common.{inl, inr, ◌≡◌, List, [], ◌∷◌, ◌++◌, map, refl, sym, subst, ◌∙◌}
 use Rattle.mm_label.specs.Fronts.{Within, Ordered}
-use Rattle.mm_label.specs.Facts.Members.{within_joined}
+use Rattle.mm_label.specs.Facts.Members.{within_joined, within_in}
 
 pub ordered_joined : {A : Type 0} (R : A → A → Type 0) (xs ys : List A) → Ordered R xs → Ordered R ys → ((u r : A) → Within u xs → Within r ys → R u r) → Ordered R (xs ++ ys)
 ordered_joined R [] ys g h f = h
@@ -34,3 +34,10 @@ ordered_same {A} R (x ∷ r) (y ∷ s) one g h f b = let e = first (f x (inl ref
 
     back : (u : A) → Within u (x ∷ r) → (u ≡ x → ⊥) → Within u r
     back u p n = elim p [ inl e ↦ absurd (n e) | inr k ↦ k ]
+
+pub ordered_map : {A B : Type 0} (at : A → B) (R : B → B → Type 0) (xs : List A) → Ordered (λ a b. R (at a) (at b)) xs → Ordered R (map at xs)
+ordered_map at R [] g = tt
+ordered_map at R (x ∷ xs) g = (
+  λ m w. let t = within_in at m xs w in subst (R (at x)) (sym t.2) (g.0 t.0 t.1),
+  ordered_map at R xs g.1,
+)

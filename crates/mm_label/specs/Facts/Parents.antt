@@ -2,7 +2,7 @@
 use Rattle.std.proofs.Common.{inl, inr, ◌≡◌, ◌⊎◌, Bool, true, false, cond, ◌<◌, ◌≤◌, [], ◌∷◌, refl, ap, sym, Some, length, arith}
 use Rattle.std.specs.Prelude.{ℤ}
 use Rattle.mm_label.specs.Label.{IsLabel, whole, onto_whole, is_odd, last_odd}
-use Rattle.mm_label.specs.Fronts.{Label, Front, IsChild, but_last, parent, named}
+use Rattle.mm_label.specs.Fronts.{Label, Front, IsChild, but_last, parent, unless_empty}
 use Rattle.mm_label.specs.Facts.Fronts.{front_trans, front_antisym, whole_front, whole_whole, front_whole}
 use Rattle.mm_label.specs.Facts.Children.{front_none}
 
@@ -62,9 +62,9 @@ last_whole b [] n o = absurd (n refl)
 last_whole b (c ∷ []) n o = ap (λ (t : Bool). cond t (c ∷ []) []) o
 last_whole b (c ∷ d ∷ ds) n o = ap (onto_whole c) (last_whole (is_odd c) (d ∷ ds) (λ e. absurd cc) o)
 
-pub named_some : (p : Label) → (p ≡ [] → ⊥) → named p ≡ Some p
-named_some [] n = absurd (n refl)
-named_some (c ∷ p) n = refl
+pub unless_empty_some : (p : Label) → (p ≡ [] → ⊥) → unless_empty p ≡ Some p
+unless_empty_some [] n = absurd (n refl)
+unless_empty_some (c ∷ p) n = refl
 
 pub label_some : (x : Label) → IsLabel x → x ≡ [] → ⊥
 label_some [] l e = let o = l.ends_odd in absurd cc

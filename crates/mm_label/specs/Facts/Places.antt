@@ -1,14 +1,18 @@
 -- The tests of a search by halving, and what stands at a place of a list in document order.
 use Rattle.std.proofs.Common.{inl, inr, ◌≡◌, ℕ, zero, suc, ◌<◌, ◌≤◌, true, false, List, [], ◌∷◌, refl, ap, sym, subst, ◌∙◌, Some, None, length, arith, Ordering, Less, Equal, Greater}
 use Rattle.std.specs.Prelude.{slice_index_or, slice_get, AllPairs}
+use Rattle.std.specs.List.{AllByRecursion}
+use Rattle.std.specs.List.Sorted.{IsStrictlySortedBy}
 use Rattle.std.specs.Ordering.{int_cmp, is_le, is_lt, ordering_reverse}
 use Rattle.std.specs.Cmp.{int_cmp_total}
 use Rattle.std.specs.Cmp.Lexicographic.{slice_cmp, lists_total}
 use Rattle.std.proofs.lemmas.Cmp.{tied_itself}
 use Rattle.std.proofs.lemmas.Bool.{cases_lt}
+use Rattle.std.proofs.lemmas.List.Kept.{AllPairs-cons}
 use Rattle.mm_label.specs.Label.{IsBefore}
-use Rattle.mm_label.specs.Fronts.{Label, IsAtOrBefore}
-use Rattle.mm_label.specs.Facts.Order.{before_lt, exact}
+use Rattle.mm_label.specs.Fronts.{Label, Lt, Within, Ascends, IsAtOrBefore}
+use Rattle.mm_label.specs.Facts.Order.{before_lt, lt_before, exact}
+use Rattle.mm_label.specs.Facts.Members.{within_of}
 
 pub before_trans : (a b c : Label) → IsBefore a b → IsBefore b c → IsBefore a c
 before_trans a b c p q = (lists_total int_cmp_total).trans a b c p q
@@ -83,3 +87,18 @@ at_or_before ms i k d e a h q = subst (λ (x : Label). IsAtOrBefore (slice_index
   | inl s ↦ inr (a i k d s q)
   | inr s ↦ let t : i ≡ k = omega arith in inl (ap (λ (n : ℕ). slice_index_or ms n d) t)
 ])
+
+-- ---- lists in document order
+
+pub in_order : (ms : List Label) → Ascends ms → AllPairs IsBefore ms
+in_order [] a = λ i j d h k. absurd (omega arith)
+in_order (m ∷ ms) a = AllPairs-cons IsBefore m ms (λ k d h. lt_before m (slice_index_or ms k d) (a.0 (slice_index_or ms k d) (within_of (slice_index_or ms k d) ms (k, h, same_at ms k (slice_index_or ms k d) d h)))) (in_order ms a.1)
+
+before_all : (x m : Label) (ms : List Label) → AllByRecursion (λ y. slice_cmp int_cmp x y ≡ Less) ms → Within m ms → Lt x m
+before_all x m [] a w = absurd w
+before_all x m (y ∷ ms) a w = elim w [ inl e ↦ subst (Lt x) (sym e) (before_lt x y a.0) | inr k ↦ before_all x m ms a.1 k ]
+
+pub sorted_ascends : (ms : List Label) → IsStrictlySortedBy (slice_cmp int_cmp) ms → Ascends ms
+unfolding IsStrictlySortedBy
+sorted_ascends [] s = tt
+sorted_ascends (x ∷ ms) s = ((λ m w. before_all x m ms s.0 w), sorted_ascends ms s.1)

@@ -1,8 +1,8 @@
 -- Where a word occurs at or below a label, in the trees and in the keyword lists.
 use Rattle.std.proofs.Common.{inl, inr, ◌≡◌, ◌⊎◌, Bool, true, false, cond, ◌||◌, List, [], ◌∷◌, ◌++◌, refl, sym, subst, ◌∙◌}
 use Rattle.std.proofs.lemmas.Bool.{or_left, or_cases, and_from, and_parts, or_right}
-use Rattle.mm_label.specs.Fronts.{Label, Front, Apart, Within, Meets, IsChild}
-use Rattle.mm_lists.specs.Full.{Full, Rising, Word}
+use Rattle.mm_label.specs.Fronts.{Label, Front, Apart, Meets, IsChild}
+use Rattle.mm_lists.specs.Full.{MeetsAll, Word}
 use Rattle.mm_label.specs.Label.{whole}
 use Rattle.mm_tree.specs.Trees.{Trees, none, node}
 use Rattle.mm_tree.specs.Search.{Worded, has, holds, is_full, list_of, lists_of}
@@ -10,7 +10,6 @@ use Rattle.mm_lists.specs.Formed.{RootsAfter, WellFormed}
 use Rattle.mm_label.specs.Facts.Fronts.{front_refl, front_trans, front_antisym, apart_below}
 use Rattle.mm_label.specs.Facts.Children.{under}
 use Rattle.mm_label.specs.Facts.Lists.{meets_right, meets_cases, meets_left}
-use Rattle.mm_label.specs.Facts.Members.{within_joined}
 
 -- ---- the nodes of the trees
 
@@ -148,15 +147,6 @@ pub all_inner : (z : Label) (ws : List Word) (e : Worded) (inner : Trees Worded)
 all_inner z [] e inner n h = tt
 all_inner z (w ∷ ws) e inner n h = (elim h.0 [ inl q ↦ absurd (n q.1) | inr q ↦ q ], all_inner z ws e inner n h.1)
 
--- ---- lists joined
-
-pub rising_joined : (front back : List Label) → Rising front → Rising back → ((u r : Label) → Within u front → Within r back → Apart u r) → Rising (front ++ back)
-rising_joined [] back g h f = h
-rising_joined (a ∷ front) back g h f = (
-  λ m w. elim (within_joined m front back w) [ inl k ↦ g.0 m k | inr k ↦ f a m (inl refl) k ],
-  rising_joined front back g.1 h (λ u r p q. f u r (inr p) q),
-)
-
 -- ---- from below to lists
 
 own_meets : (b : Bool) (x m : Label) (p q : List Label) → (b ≡ true) × Front x m → Meets x (cond b (m ∷ []) [] ++ q)
@@ -187,10 +177,10 @@ meets_below x w (node e inner rest) h = elim (meets_own (has e w) x e.label (lis
   ]
 ]
 
-pub full_lists : (x : Label) (ws : List Word) (forest : Trees Worded) → AllBelow x ws forest → Full x (lists_of ws forest)
+pub full_lists : (x : Label) (ws : List Word) (forest : Trees Worded) → AllBelow x ws forest → MeetsAll x (lists_of ws forest)
 full_lists x [] forest h = tt
 full_lists x (w ∷ ws) forest h = (below_meets x w forest h.0, full_lists x ws forest h.1)
 
-pub lists_full : (x : Label) (ws : List Word) (forest : Trees Worded) → Full x (lists_of ws forest) → AllBelow x ws forest
+pub lists_full : (x : Label) (ws : List Word) (forest : Trees Worded) → MeetsAll x (lists_of ws forest) → AllBelow x ws forest
 lists_full x [] forest h = tt
 lists_full x (w ∷ ws) forest h = (meets_below x w forest h.0, lists_full x ws forest h.1)

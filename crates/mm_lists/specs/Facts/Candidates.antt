@@ -1,7 +1,8 @@
 -- The deeper of two lca, folded over the lists, is the deepest label above v at which each list is met.
 use Rattle.std.proofs.Common.{inl, inr, ◌≡◌, ◌⊎◌, Bool, true, false, cond, List, [], ◌∷◌, ◌++◌, refl, sym, subst, Option, Some, None}
 use Rattle.mm_label.specs.Fronts.{Label, Front, is_front, Le, Within, Meets}
-use Rattle.mm_lists.specs.Full.{Full, reach, deeper, narrowed, IsCandidate}
+use Rattle.mm_lists.specs.Full.{MeetsAll, IsCandidate}
+use Rattle.mm_lists.specs.Inside.Narrowing.{ancestor_with, deeper, narrowed}
 use Rattle.mm_label.specs.Label.{whole, lca}
 use Rattle.mm_lists.specs.Facts.Nearest.{LeftMatch, RightMatch}
 use Rattle.mm_label.specs.Facts.Fronts.{front_refl, front_trans, front_le, front_yes, front_no, fronts_of_one, le_trans, le_total, between_front, lca_left, lca_right, lca_whole, front_lca}
@@ -28,15 +29,15 @@ nearest ms v x o p h k f m =
       | inr q ↦ inr (from_right ms v x t.0 p k f t.1 t.2 q)
     ]
 
-reach_front : (x : Label) (o : Option Label) → Front (reach x o) x
+reach_front : (x : Label) (o : Option Label) → Front (ancestor_with x o) x
 reach_front x None = tt
 reach_front x (Some m) = lca_left x m
 
-reach_whole : (x : Label) (o : Option Label) → whole (reach x o) ≡ reach x o
+reach_whole : (x : Label) (o : Option Label) → whole (ancestor_with x o) ≡ ancestor_with x o
 reach_whole x None = refl
 reach_whole x (Some m) = lca_whole x m
 
-front_reach : (z x : Label) (o : Option Label) → whole z ≡ z → Front z x → FrontOf z o → Front z (reach x o)
+front_reach : (z x : Label) (o : Option Label) → whole z ≡ z → Front z x → FrontOf z o → Front z (ancestor_with x o)
 front_reach z x None w f g = absurd g
 front_reach z x (Some m) w f g = front_lca z x m w f g
 
@@ -58,23 +59,23 @@ deeper_is a b = by (is_front a b)
     by true = inr refl
     by false = inl refl
 
-reach_meets_left : (ms : List Label) (v x w : Label) (o : Option Label) → LeftMatch ms v o → Within w ms → Meets (reach x o) ms
+reach_meets_left : (ms : List Label) (v x w : Label) (o : Option Label) → LeftMatch ms v o → Within w ms → Meets (ancestor_with x o) ms
 reach_meets_left ms v x w None h k = meets [] ms w k tt
 reach_meets_left ms v x w (Some l) h k = meets (lca x l) ms l h.0 (lca_right x l)
 
-reach_meets_right : (ms : List Label) (v x w : Label) (p : Option Label) → RightMatch ms v p → Within w ms → Meets (reach x p) ms
+reach_meets_right : (ms : List Label) (v x w : Label) (p : Option Label) → RightMatch ms v p → Within w ms → Meets (ancestor_with x p) ms
 reach_meets_right ms v x w None h k = meets [] ms w k tt
 reach_meets_right ms v x w (Some r) h k = meets (lca x r) ms r h.0 (lca_right x r)
 
-pub full_above : (a b : Label) (ls : List (List Label)) → Front a b → Full b ls → Full a ls
+pub full_above : (a b : Label) (ls : List (List Label)) → Front a b → MeetsAll b ls → MeetsAll a ls
 full_above a b [] f h = tt
 full_above a b (l ∷ ls) f h = (meets_above a b l f h.0, full_above a b ls f h.1)
 
-pub full_more : (x : Label) (ls : List (List Label)) (l : List Label) → Full x ls → Meets x l → Full x (ls ++ l ∷ [])
+pub full_more : (x : Label) (ls : List (List Label)) (l : List Label) → MeetsAll x ls → Meets x l → MeetsAll x (ls ++ l ∷ [])
 full_more x [] l h m = (m, tt)
 full_more x (k ∷ ls) l h m = (h.0, full_more x ls l h.1 m)
 
-pub full_fewer : (x : Label) (ls : List (List Label)) (l : List Label) → Full x (ls ++ l ∷ []) → Full x ls × Meets x l
+pub full_fewer : (x : Label) (ls : List (List Label)) (l : List Label) → MeetsAll x (ls ++ l ∷ []) → MeetsAll x ls × Meets x l
 full_fewer x [] l h = (tt, h.0)
 full_fewer x (k ∷ ls) l h = let t = full_fewer x ls l h.1 in ((h.0, t.0), t.1)
 
@@ -89,8 +90,8 @@ candidate_more ls ms v x o p c h k some =
     let t = met [] ms some in
     let w = t.0 in
     let n = t.1 in
-    let a = reach x o in
-    let b = reach x p in
+    let a = ancestor_with x o in
+    let b = ancestor_with x p in
     let front : Front (deeper a b) x = elim (deeper_is a b) [
       | inl e ↦ subst (λ (t : Label). Front t x) (sym e) (reach_front x o)
       | inr e ↦ subst (λ (t : Label). Front t x) (sym e) (reach_front x p)

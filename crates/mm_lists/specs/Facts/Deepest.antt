@@ -1,9 +1,10 @@
 -- The deepest full nodes are one list.
-use Rattle.std.proofs.Common.{inl, inr, ◌≡◌, List, [], ◌∷◌, refl, sym, subst, ◌∙◌}
+use Rattle.std.proofs.Common.{inl, inr, ◌≡◌, List, [], ◌∷◌, sym, subst, ◌∙◌}
 use Rattle.mm_label.specs.Fronts.{Label, Front, Apart, Within}
 use Rattle.mm_lists.specs.Full.{Rising, Deepest}
 use Rattle.mm_label.specs.Facts.Fronts.{front_refl, front_trans, front_antisym, front_le, le_antisym}
 use Rattle.mm_label.specs.Facts.Lists.{met}
+use Rattle.mm_label.specs.Facts.Ordered.{ordered_same}
 
 not_back : (x a : Label) → Apart x a → Front a x → ⊥
 not_back x a w f = w.1 (subst (Front x) (le_antisym x a w.0 (front_le a x f)) (front_refl x))
@@ -30,26 +31,8 @@ same_at ls r s d e u w =
     let p = front_antisym u t.0 t.2 (subst (Front t.0) (sym q) k.2) in
     subst (λ (x : Label). Within x s) (sym p) t.1
 
-not_itself : (x : Label) (r : List Label) → Rising (x ∷ r) → Within x r → ⊥
-not_itself x r g w = (g.0 x w).1 (front_refl x)
-
-rest_of : (x y : Label) (r s : List Label) → x ≡ y → Rising (x ∷ r) → ((u : Label) → Within u (x ∷ r) → Within u (y ∷ s)) → (u : Label) → Within u r → Within u s
-rest_of x y r s e g h u w = elim (h u (inr w)) [
-  | inl k ↦ absurd (not_itself x r g (subst (λ (t : Label). Within t r) (k ∙ sym e) w))
-  | inr k ↦ k
-]
-
-same_list : (r s : List Label) → Rising r → Rising s → ((u : Label) → Within u r → Within u s) → ((u : Label) → Within u s → Within u r) → r ≡ s
-same_list [] [] g h p q = refl
-same_list [] (y ∷ s) g h p q = absurd (q y (inl refl))
-same_list (x ∷ r) [] g h p q = absurd (p x (inl refl))
-same_list (x ∷ r) (y ∷ s) g h p q =
-    let first : x ≡ y = elim (p x (inl refl)) [
-      | inl e ↦ e
-      | inr k ↦ elim (q y (inl refl)) [ inl e ↦ sym e | inr m ↦ le_antisym x y (g.0 y m).0 (h.0 x k).0 ]
-    ] in
-    let rest : r ≡ s = same_list r s g.1 h.1 (rest_of x y r s first g p) (rest_of y x s r (sym first) h q) in
-    cc (first, rest)
+apart_once : (a b : Label) → Apart a b → Apart b a → ⊥
+apart_once a b p q = not_back a b p (subst (λ (t : Label). Front t a) (le_antisym a b p.0 q.0) (front_refl a))
 
 pub one_list : (ls : List (List Label)) (r s : List Label) → Deepest ls r → Deepest ls s → r ≡ s
-one_list ls r s d e = same_list r s d.rising e.rising (same_at ls r s d e) (same_at ls s r e d)
+one_list ls r s d e = ordered_same Apart r s apart_once d.rising e.rising (same_at ls r s d e) (same_at ls s r e d)

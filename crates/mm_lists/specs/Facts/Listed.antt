@@ -2,7 +2,7 @@
 use Rattle.std.proofs.Common.{inl, inr, ◌≡◌, ℕ, zero, suc, ◌+◌, ◌<◌, cond, List, [], ◌∷◌, ◌++◌, refl, ap, sym, subst, ◌∙◌, take, get_or, length, arith}
 use Rattle.std.proofs.lemmas.List.{take_more}
 use Rattle.mm_label.specs.Fronts.{Label, Within, Meets, Lt, Ascends}
-use Rattle.mm_lists.specs.Full.{Full, Word}
+use Rattle.mm_lists.specs.Full.{MeetsAll, Word}
 use Rattle.mm_label.specs.Label.{whole}
 use Rattle.mm_tree.specs.Trees.{Trees, none, node}
 use Rattle.mm_tree.specs.Search.{Worded, has, list_of, lists_of}
@@ -56,7 +56,7 @@ lists_joined (q ∷ qs) ws forest = ap (λ (r : List (List Label)). list_of q fo
 pub lists_more : (qs : List Word) (i : ℕ) (forest : Trees Worded) → i < length qs → lists_of (take (i + 1) qs) forest ≡ lists_of (take i qs) forest ++ list_of (get_or qs i []) forest ∷ []
 lists_more qs i forest h = ap (λ (q : List Word). lists_of q forest) (take_more qs i [] h) ∙ lists_joined (take i qs) (get_or qs i [] ∷ []) forest
 
-pub full_at : (qs : List Word) (i : ℕ) (x : Label) (forest : Trees Worded) → i < length qs → Full x (lists_of qs forest) → Meets x (list_of (get_or qs i []) forest)
+pub full_at : (qs : List Word) (i : ℕ) (x : Label) (forest : Trees Worded) → i < length qs → MeetsAll x (lists_of qs forest) → Meets x (list_of (get_or qs i []) forest)
 full_at [] i x forest h f = absurd (omega arith)
 full_at (q ∷ qs) zero x forest h f = f.0
 full_at (q ∷ qs) (suc i) x forest h f = full_at qs i x forest (omega arith) f.1

@@ -4,7 +4,7 @@ use Rattle.std.proofs.lemmas.Bool.{eqb-true}
 use Rattle.mm_label.specs.Fronts.{Label, Meets}
 use Rattle.mm_tree.specs.Trees.{Trees}
 use Rattle.mm_tree.specs.Search.{Worded, list_of, lists_of}
-use Rattle.mm_lists.specs.Full.{Word, Full}
+use Rattle.mm_lists.specs.Full.{Word, MeetsAll}
 use Rattle.mm_lists.specs.Shortest.{IsShortest, least}
 
 pub length_lists : (qs : List Word) (forest : Trees Worded) → length (lists_of qs forest) ≡ length qs
@@ -44,11 +44,11 @@ pub some_meets : (ms : List Label) → 0 < length ms → Meets [] ms
 some_meets [] h = absurd (omega arith)
 some_meets (m ∷ ms) h = inl tt
 
-pub full_some : (qs : List Word) (forest : Trees Worded) → ((i : ℕ) → i < length qs → 0 < length (list_of (get_or qs i []) forest)) → Full [] (lists_of qs forest)
+pub full_some : (qs : List Word) (forest : Trees Worded) → ((i : ℕ) → i < length qs → 0 < length (list_of (get_or qs i []) forest)) → MeetsAll [] (lists_of qs forest)
 full_some [] forest f = tt
 full_some (q ∷ qs) forest f = (some_meets (list_of q forest) (f 0 (omega arith)), full_some qs forest (λ i h. f (suc i) (omega arith)))
 
-pub shortest_full : (qs : List Word) (forest : Trees Worded) (at size : ℕ) → IsShortest qs forest at size → 0 < size → Full [] (lists_of qs forest)
+pub shortest_full : (qs : List Word) (forest : Trees Worded) (at size : ℕ) → IsShortest qs forest at size → 0 < size → MeetsAll [] (lists_of qs forest)
 shortest_full qs forest at size s pos = full_some qs forest (λ i h. let t : size ≤ length (list_of (get_or qs i []) forest) = s.1 i h in omega arith)
 
 -- ---- how the steps of the passes add up

@@ -3,7 +3,7 @@
 ghost use Rattle.std.specs.Prelude.{◌≡◌, IfOk, IfErr, option_map};
 ghost use Rattle.mm_label.specs.Label.{IsSegment};
 ghost use Rattle.mm_label.specs.Between.{between, LiesBetween};
-ghost use Rattle.mm_label.specs.Answers.{RefusesSegment};
+ghost use Rattle.mm_label.specs.Refusals.{RefusesSegment};
 ghost use Rattle.mm_tree.specs.Numbering.{Labels};
 ghost use Rattle.mm_tree.specs.Edits.{label_in, left_segment, right_segment};
 ghost use Rattle.mm_tree.specs.Ways.{gap_of, IsOpen, EndsIn};

@@ -2,7 +2,7 @@
 
 ghost use Rattle.std.specs.Prelude.{◌≡◌, ◌&&◌, not, false, [], slice_get, option_map, None, Some, MatchOption, IsTrue, IfOk, IfErr};
 ghost use Rattle.mm_label.specs.Label.{level};
-ghost use Rattle.mm_label.specs.Answers.{front_of};
+ghost use Rattle.mm_label.specs.Refusals.{front_of};
 ghost use Rattle.mm_tree.specs.declared.plain.Kind.{Kind};
 ghost use Rattle.mm_tree.specs.Trees.{Tree};
 ghost use Rattle.mm_tree.specs.Validity.{is_element};

@@ -4,8 +4,8 @@ use Rattle.mm_tree.specs.Trees.{Trees}
 use Rattle.mm_tree.specs.Numbering.{Labelled}
 use Rattle.mm_tree.specs.Forests.{is_well_formed}
 use Rattle.mm_tree.specs.Search.{list_of, lists_of, worded}
-use Rattle.mm_lists.specs.Full.{Full}
-use Rattle.mm_elca.specs.Owning.{Gathering}
+use Rattle.mm_lists.specs.Full.{MeetsAll}
+use Rattle.mm_elca.specs.Inside.Gathering.{Gathering}
 use Rattle.mm_elca.proofs.candidates.gather.Given as goal
 
 abbrev pub invariant-loop-i : goal.invariant-loop-i
@@ -16,6 +16,6 @@ invariant-loop-i g l = record {
   unspent : g.X.Lists.spent l.lists ≡ true → g.X.Lists.spent l.fn.lists ≡ true;
   cost : l.steps + l.i ≤ l.initial.steps + 2 * length l.words * l.i;
   count : length l.found ≤ l.i;
-  value : (f : Trees Labelled) → IsTrue (is_well_formed f) → g.X.Lists.stands l.fn.lists f → Full [] (lists_of l.words (worded f))
+  value : (f : Trees Labelled) → IsTrue (is_well_formed f) → g.X.Lists.stands l.fn.lists f → MeetsAll [] (lists_of l.words (worded f))
       → Gathering (lists_of l.words (worded f)) (list_of (get_or l.words l.own []) (worded f)) l.i l.found l.at;
 }

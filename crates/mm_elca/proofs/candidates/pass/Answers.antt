@@ -7,7 +7,7 @@ use Rattle.mm_lists.specs.Lists.{IsNext}
 use Rattle.mm_lists.specs.Facts.Nearest.{next_match}
 use Rattle.mm_lists.specs.Facts.Formed.{formed}
 use Rattle.mm_lists.specs.Facts.Listed.{list_ascends}
-use Rattle.mm_elca.specs.Owning.{Gathering}
+use Rattle.mm_elca.specs.Inside.Gathering.{Gathering}
 use Rattle.mm_elca.proofs.Gathering.{gathering_none, gathering_some, gathering_at, takes_length, on_ok}
 use Rattle.mm_elca.proofs.candidates.pass.Goals as goal
 

@@ -1,6 +1,6 @@
 use Rattle.std.proofs.Common.{◌∙◌, ◌+◌, ◌++◌, ◌∷◌, [], List, sym, subst, take, arith}
 use Rattle.mm_label.specs.Fronts.{Label}
-use Rattle.mm_elca.specs.Children.{AreChildrenTo}
+use Rattle.mm_elca.specs.Inside.Children.{AreChildrenTo}
 use Rattle.mm_elca.proofs.Clearing.{children_more, one_more, within_got}
 use Rattle.mm_elca.proofs.Stacking.{snoc_length}
 use Rattle.mm_elca.proofs.children.children_to.Goals as goal

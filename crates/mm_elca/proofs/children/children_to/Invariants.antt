@@ -1,6 +1,6 @@
 use Rattle.std.proofs.Common.{◌≡◌, length, take}
 use Rattle.mm_label.specs.Label.{whole}
-use Rattle.mm_elca.specs.Children.{AreBelow, AreChildrenTo}
+use Rattle.mm_elca.specs.Inside.Children.{AreBelow, AreChildrenTo}
 use Rattle.mm_elca.proofs.children.children_to.Given as goal
 
 abbrev pub invariant-loop-t : goal.invariant-loop-t

@@ -2,7 +2,7 @@ use Rattle.std.proofs.Common.{[], get_or}
 use Rattle.mm_tree.specs.Search.{list_of, lists_of, worded}
 use Rattle.mm_lists.specs.Facts.Listed.{full_at}
 use Rattle.mm_lists.specs.Facts.Formed.{formed}
-use Rattle.mm_elca.specs.Owning.{Gathered}
+use Rattle.mm_elca.specs.Inside.Gathering.{Gathered}
 use Rattle.mm_elca.proofs.Answering.{answers_from}
 use Rattle.mm_elca.proofs.Gathering.{gathered_candidates}
 use Rattle.mm_elca.proofs.search.answer_list.Goals as goal

@@ -1,8 +1,8 @@
 use Rattle.std.proofs.Common.{arith, ap, ◌≡◌, ◌∙◌, sym, subst, length, List}
 use Rattle.mm_tree.specs.Search.{lists_of, worded}
 use Rattle.mm_label.specs.Fronts.{Label}
-use Rattle.mm_elca.specs.Children.{AreBelow, AreChildren, AreChildrenTo}
-use Rattle.mm_elca.specs.Clear.{TellsAll}
+use Rattle.mm_elca.specs.Inside.Children.{AreBelow, AreChildren, AreChildrenTo}
+use Rattle.mm_elca.specs.Inside.Clear.{HaveClear}
 use Rattle.mm_elca.proofs.Judging.{step_below, step_children, step_stack, step_done}
 use Rattle.mm_elca.proofs.Stacking.{snoc_length, cost_step}
 use Rattle.mm_elca.proofs.search.judge.Goals as goal
@@ -23,8 +23,8 @@ returns-clause-done g c = λ f passed w r s j.
     let b : AreBelow x u = step_below all x passed was c.take_below.new.stack u r s p c.in_ok-under.ensures.off in
     let k : AreChildrenTo x u c.in_ok-kids.kids = subst (λ (v : List Label). AreChildrenTo x v c.in_ok-kids.kids) e (c.in_ok-kids.ensures.value r.here.0 (subst (AreBelow x) (sym e) b)) in
     let a : AreChildren x c.in_ok-kids.kids = step_children x was c.take_below.new.stack u c.in_ok-kids.kids p k in
-    let t : TellsAll all x c.in_ok-kids.kids c.in_ok-owns.owns =
-    subst (λ (v : List Label). TellsAll all x v c.in_ok-owns.owns) d (c.in_ok-owns.ensures.value f w (subst (AreChildren x) (sym d) a)) in
+    let t : HaveClear all x c.in_ok-kids.kids c.in_ok-owns.owns =
+    subst (λ (v : List Label). HaveClear all x v c.in_ok-owns.owns) d (c.in_ok-owns.ensures.value f w (subst (AreChildren x) (sym d) a)) in
     step_done all x passed was c.take_below.new.stack u c.in_ok-kids.kids c.args.held.now.done c.note.new.done c.in_ok-owns.owns r s p c.in_ok-under.ensures.off k j t c.in_ok-note.ensures
 
 pub returns-clause-cost : goal.returns-clause-cost

@@ -1,7 +1,8 @@
 use Rattle.std.proofs.Common.{arith, ap, ◌≡◌, ◌∙◌, ◌+◌, ◌*◌, ℕ, subst, length, [], ◌∷◌, ◌++◌}
 use Rattle.mm_tree.specs.Search.{lists_of, worded}
 use Rattle.mm_lists.specs.Facts.Keeping.{kept_along}
-use Rattle.mm_elca.specs.Owning.{Candidates, Ready}
+use Rattle.mm_elca.specs.Owning.{Candidates}
+use Rattle.mm_elca.specs.Inside.Gathering.{Ready}
 use Rattle.mm_elca.proofs.Judging.{ready_at}
 use Rattle.mm_elca.proofs.Stacking.{snoc_length, snoc_joined}
 use Rattle.mm_elca.proofs.search.judge_all.Goals as goal

@@ -4,7 +4,7 @@ use Rattle.mm_tree.specs.Trees.{Trees}
 use Rattle.mm_tree.specs.Numbering.{Labelled}
 use Rattle.mm_tree.specs.Search.{lists_of, worded}
 use Rattle.mm_label.specs.Fronts.{Label}
-use Rattle.mm_elca.specs.Stack.{Stacked, Judged}
+use Rattle.mm_elca.specs.Inside.Stack.{Stacked, Judged}
 use Rattle.mm_elca.specs.Owning.{IsOwner, Candidates}
 use Rattle.mm_elca.proofs.search.judge_all.Given as goal
 

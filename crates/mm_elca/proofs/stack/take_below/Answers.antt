@@ -1,5 +1,5 @@
 use Rattle.std.proofs.Common.{arith, subst}
-use Rattle.mm_elca.specs.Stack.{Takes}
+use Rattle.mm_elca.specs.Inside.Stack.{Takes}
 use Rattle.mm_elca.proofs.Stacking.{parted_taken, snoc_length}
 use Rattle.mm_elca.proofs.stack.take_below.Goals as goal
 

@@ -1,5 +1,5 @@
 use Rattle.std.proofs.Common.{◌≡◌, ◌+◌, length}
-use Rattle.mm_elca.specs.Stack.{Parted, Falling}
+use Rattle.mm_elca.specs.Inside.Stack.{Parted, Falling}
 use Rattle.mm_elca.proofs.stack.take_below.Given as goal
 
 abbrev pub invariant-loop-under : goal.invariant-loop-under

@@ -3,7 +3,7 @@ use Rattle.mm_tree.specs.Search.{list_of, worded}
 use Rattle.mm_label.specs.Fronts.{Label}
 use Rattle.mm_lists.specs.Facts.Keeping.{kept_along}
 use Rattle.mm_lists.specs.Facts.Nearest.{right_match}
-use Rattle.mm_elca.specs.Clear.{IsFirstClear, Tells, is_under}
+use Rattle.mm_elca.specs.Inside.Clear.{IsFirstClear, HasClear, is_under}
 use Rattle.mm_elca.proofs.Clearing.{next_child, past_first, tells, one_more}
 use Rattle.mm_elca.proofs.test.own_match.Goals as goal
 
@@ -36,6 +36,6 @@ returns-clause-value g c = λ f s a.
     let ms = list_of c.args.word.now (worded f) in
     let x = c.args.x.now in
     let e = take_all c.loop-kid.kid-index c.args.kids.now (omega arith) in
-    subst (Tells ms x c.args.kids.now) (sym {b = is_under x c.loop-kid.found} c.is_below.ensures)
+    subst (HasClear ms x c.args.kids.now) (sym {b = is_under x c.loop-kid.found} c.is_below.ensures)
     (tells ms c.args.kids.now x c.loop-kid.found
     (subst (λ (ks : List Label). IsFirstClear ms x ks c.loop-kid.found) e (c.loop-kid.invariant.value f s a)))

@@ -3,8 +3,8 @@ use Rattle.std.specs.Prelude.{◌↔◌}
 use Rattle.mm_tree.specs.Trees.{Trees}
 use Rattle.mm_tree.specs.Numbering.{Labelled}
 use Rattle.mm_tree.specs.Search.{list_of, worded}
-use Rattle.mm_elca.specs.Children.{AreChildren}
-use Rattle.mm_elca.specs.Clear.{IsFirstClear}
+use Rattle.mm_elca.specs.Inside.Children.{AreChildren}
+use Rattle.mm_elca.specs.Inside.Clear.{IsFirstClear}
 use Rattle.mm_elca.proofs.test.own_match.Given as goal
 
 abbrev pub invariant-loop-kid : goal.invariant-loop-kid

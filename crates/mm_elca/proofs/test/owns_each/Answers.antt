@@ -5,7 +5,7 @@ use Rattle.mm_label.specs.Fronts.{Label}
 use Rattle.mm_lists.specs.Full.{Word}
 use Rattle.mm_lists.specs.Facts.Keeping.{kept_along}
 use Rattle.mm_lists.specs.Facts.Listed.{lists_more}
-use Rattle.mm_elca.specs.Clear.{TellsAll}
+use Rattle.mm_elca.specs.Inside.Clear.{HaveClear}
 use Rattle.mm_elca.proofs.Clearing.{tells_more}
 use Rattle.mm_elca.proofs.test.owns_each.Goals as goal
 
@@ -21,8 +21,8 @@ loop-word-preserved g c = record {
       let ks = c.args.kids.now in
       let i = c.loop-word.word-index in
       let e : c.word-item.result ≡ get_or c.args.words.now i [] = c.word-item.is ∙ get_or_default c.args.words.now i c.word-item.result [] c.loop-word-test.true in
-      subst (TellsAll (lists_of (take (i + 1) c.args.words.now) (worded f)) x ks) (sym c.both-so_far.ensures)
-      (subst (λ (ls : List (List Label)). TellsAll ls x ks (c.loop-word.so_far && c.in_ok-here.here))
+      subst (HaveClear (lists_of (take (i + 1) c.args.words.now) (worded f)) x ks) (sym c.both-so_far.ensures)
+      (subst (λ (ls : List (List Label)). HaveClear ls x ks (c.loop-word.so_far && c.in_ok-here.here))
       (ap (λ (q : Word). lists_of (take i c.args.words.now) (worded f) ++ list_of q (worded f) ∷ []) e ∙ sym (lists_more c.args.words.now i (worded f) c.loop-word-test.true))
       (tells_more _ _ ks x c.loop-word.so_far c.in_ok-here.here (c.loop-word.invariant.value f s a) (c.in_ok-here.ensures.value f ((c.loop-word.invariant.kept f).0 s) a)));
 }

@@ -2,7 +2,7 @@ use Rattle.std.proofs.Common.{◌≡◌, ◌∙◌, sym, subst, true, false}
 use Rattle.std.proofs.lemmas.Result.{IfOk-weaker}
 use Rattle.mm_tree.specs.Search.{list_of, worded}
 use Rattle.mm_label.specs.Fronts.{is_front}
-use Rattle.mm_elca.specs.Clear.{IsFirstClear}
+use Rattle.mm_elca.specs.Inside.Clear.{IsFirstClear}
 use Rattle.mm_elca.proofs.Clearing.{past_match, past_none, past_step_in, past_step_out}
 use Rattle.mm_elca.proofs.test.skip.Goals as goal
 

@@ -5,8 +5,9 @@ use Rattle.mm_match.specs.Marks.{kept, labels}
 use Rattle.mm_label.specs.Fronts.{Ascends}
 use Rattle.mm_tree.specs.Numbering.{forest_of}
 use Rattle.mm_tree.specs.Fragments.{fragment}
-use Rattle.mm_fragment.specs.Piling.{shown_all}
-use Rattle.mm_fragment.specs.Rebuild.{rebuild}
+use Rattle.mm_fragment.specs.Inside.Piling.{shown_all}
+use Rattle.mm_tree.specs.Formed.{name_label}
+use Rattle.mm_tree.specs.Rebuild.{rebuild}
 use Rattle.mm_fragment.specs.Showing.{named_in}
 use Rattle.mm_fragment.proofs.LinkMasks.{AreMasks}
 use Rattle.mm_fragment.proofs.LinkFragment.{kept_is_fragment}
@@ -24,5 +25,5 @@ returns c = λ t w h e.
     c.in_ok-kept.ensures (subst (λ (ms : List Mark). Ascends (labels ms)) (sym c.as_slice.ensures) given.ordered) ∙ ap kept c.as_slice.ensures in
     elim (kept_is_fragment query f x t r w h m) [
       | inl p ↦ IfOk-weaker c.rebuild.result _ _ (λ u q. q ∙ sym p.1) (c.rebuild.ensures.alone (k ∙ p.0))
-      | inr p ↦ c.rebuild.ensures.tree (fragment query (named_in t)) (ap (λ (ms : List Mark). rebuild (shown_all query f ms)) k ∙ p)
+      | inr p ↦ c.rebuild.ensures.tree (fragment query (named_in t)) (ap (λ (ms : List Mark). rebuild name_label (shown_all query f ms)) k ∙ p)
     ]

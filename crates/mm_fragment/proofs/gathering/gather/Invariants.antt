@@ -2,7 +2,7 @@ use Rattle.std.proofs.Common.{true, ◌≡◌, ◌≤◌, List, ℕ}
 use Rattle.std.specs.Prelude.{◌↔◌}
 use Rattle.mm_tree.specs.Trees.{Tree, Trees}
 use Rattle.mm_tree.specs.Numbering.{Labelled}
-use Rattle.mm_fragment.specs.Gathering.{IsAsked}
+use Rattle.mm_fragment.specs.Inside.Gathering.{IsAsked}
 use Rattle.mm_fragment.proofs.Rounds.{Gathered}
 use Rattle.mm_fragment.proofs.gathering.gather.Given as goal
 

@@ -3,7 +3,7 @@ use Rattle.std.specs.Prelude.{◌↔◌}
 use Rattle.mm_tree.specs.Trees.{Tree, Trees}
 use Rattle.mm_tree.specs.Numbering.{Labelled}
 use Rattle.mm_fragment.specs.Bound.{full_count, pairs}
-use Rattle.mm_fragment.specs.Gathering.{IsAsked}
+use Rattle.mm_fragment.specs.Inside.Gathering.{IsAsked}
 use Rattle.mm_fragment.specs.Matching.{matches_of, open_nodes}
 use Rattle.mm_fragment.specs.Showing.{named_in}
 use Rattle.mm_fragment.proofs.gathering.matches.Given as goal

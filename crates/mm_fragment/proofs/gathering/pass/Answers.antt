@@ -1,6 +1,6 @@
 use Rattle.std.proofs.Common.{subst}
 use Rattle.std.proofs.lemmas.Result.{IfOk-weaker}
-use Rattle.mm_fragment.specs.Children.{IsFullChild}
+use Rattle.mm_fragment.specs.Inside.Children.{IsFullChild}
 use Rattle.mm_fragment.proofs.Rounds.{pass_skip, pass_take, root_whole, stands_whole}
 use Rattle.mm_fragment.proofs.gathering.pass.Goals as goal
 

@@ -1,5 +1,5 @@
 use Rattle.std.proofs.Common.{subst}
-use Rattle.mm_fragment.specs.Piling.{TakesOff}
+use Rattle.mm_fragment.specs.Inside.Piling.{TakesOff}
 use Rattle.mm_fragment.proofs.Piles.{taking_more, taking_ended}
 use Rattle.mm_fragment.proofs.rebuilding.take_below.Goals as goal
 

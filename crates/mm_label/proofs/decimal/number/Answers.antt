@@ -1,7 +1,7 @@
 use Rattle.std.proofs.Common.{ap, sym, ◌∙◌, subst, w64, rules, ℤ, Some}
 use Rattle.std.proofs.lemmas.Int.{to_z-of_z}
 use Rattle.mm_label.specs.Label.{is_in_range}
-use Rattle.mm_label.specs.Text.{IsOnlyNumber}
+use Rattle.mm_label.specs.Inside.Numbers.{IsOnlyNumber}
 use Rattle.mm_label.proofs.Texts.{read_one, read_out, read_error}
 use Rattle.mm_label.proofs.decimal.number.Goals as goal
 

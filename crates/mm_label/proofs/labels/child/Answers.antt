@@ -1,7 +1,7 @@
 use Rattle.std.proofs.Common.{◌≡◌, ◌++◌, option_map, arith, rules, length, subst, sym, ap, ◌∙◌}
 use Rattle.smallvec.specs.SmallVec.{small_vec_len}
 use Rattle.mm_label.specs.Label.{IsLabel}
-use Rattle.mm_label.specs.Answers.{front_of}
+use Rattle.mm_label.specs.Refusals.{front_of}
 use Rattle.mm_label.proofs.HeldFacts.{IsMade, child_is}
 use Rattle.mm_label.proofs.labels.child.Goals as goal
 

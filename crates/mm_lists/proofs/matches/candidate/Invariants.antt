@@ -5,7 +5,8 @@ use Rattle.mm_tree.specs.Numbering.{Labelled}
 use Rattle.mm_tree.specs.Forests.{is_well_formed}
 use Rattle.mm_tree.specs.Search.{list_of, lists_of, worded}
 use Rattle.mm_label.specs.Fronts.{Within}
-use Rattle.mm_lists.specs.Full.{Full, IsCandidate, or_empty}
+use Rattle.mm_lists.specs.Full.{MeetsAll, IsCandidate}
+use Rattle.mm_lists.specs.Inside.Narrowing.{or_empty}
 use Rattle.mm_lists.proofs.matches.candidate.Given as goal
 
 abbrev pub invariant-loop-i : goal.invariant-loop-i
@@ -16,6 +17,6 @@ invariant-loop-i g l = record {
   unspent : g.X.Lists.spent l.lists ≡ true → g.X.Lists.spent l.fn.lists ≡ true;
   before : l.i ≤ l.own → l.steps ≤ l.initial.steps + 2 * l.i;
   past : l.own < l.i → l.steps + 2 ≤ l.initial.steps + 2 * l.i;
-  value : (f : Trees Labelled) → IsTrue (is_well_formed f) → g.X.Lists.stands l.initial.lists f → Full [] (lists_of l.words (worded f)) → Within l.v (list_of (get_or l.words l.own []) (worded f))
+  value : (f : Trees Labelled) → IsTrue (is_well_formed f) → g.X.Lists.stands l.initial.lists f → MeetsAll [] (lists_of l.words (worded f)) → Within l.v (list_of (get_or l.words l.own []) (worded f))
       → IsCandidate (lists_of (take l.i l.words) (worded f)) l.v (or_empty l.x);
 }

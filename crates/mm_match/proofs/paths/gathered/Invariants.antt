@@ -1,6 +1,6 @@
 use Rattle.std.proofs.Common.{◌≡◌, None, drop}
 use Rattle.mm_label.specs.Fronts.{Label}
-use Rattle.mm_match.specs.Passing.{gathered, mask_in}
+use Rattle.mm_match.specs.Inside.Passing.{gathered, mask_in}
 use Rattle.mm_match.proofs.paths.gathered.Given as goal
 
 -- the masks so far, with the words of the matches to come, are those of all

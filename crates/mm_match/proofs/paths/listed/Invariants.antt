@@ -1,5 +1,5 @@
 use Rattle.std.proofs.Common.{◌≡◌, ◌++◌}
-use Rattle.mm_match.specs.Passing.{marks_of}
+use Rattle.mm_match.specs.Inside.Passing.{marks_of}
 use Rattle.mm_match.proofs.paths.listed.Given as goal
 
 -- the marks so far, with those of the entries to come, are those of all

@@ -3,12 +3,13 @@ use Rattle.std.proofs.lemmas.Result.{IfOk-weaker}
 use Rattle.std.proofs.lemmas.List.{get_or_default}
 use Rattle.mm_tree.specs.Search.{list_of, lists_of, worded}
 use Rattle.mm_label.specs.Fronts.{Label}
-use Rattle.mm_lists.specs.Full.{Word, or_empty}
+use Rattle.mm_lists.specs.Full.{Word}
+use Rattle.mm_lists.specs.Inside.Narrowing.{or_empty}
 use Rattle.mm_lists.specs.Lists.{IsNext}
 use Rattle.mm_lists.specs.Facts.Nearest.{next_match}
 use Rattle.mm_lists.specs.Facts.Formed.{formed}
 use Rattle.mm_lists.specs.Facts.Listed.{list_ascends}
-use Rattle.mm_slca.specs.Walk.{Stands, taken_done, taken_held}
+use Rattle.mm_slca.specs.Inside.Walk.{Stands, taken_done, taken_held}
 use Rattle.mm_slca.proofs.Walking.{stands_none, stands_taken, stands_at}
 use Rattle.mm_slca.proofs.search.pass.Goals as goal
 

@@ -2,11 +2,12 @@ use Rattle.std.proofs.Common.{arith, sym, subst, ap, ◌∙◌, ◌≡◌, ◌+�
 use Rattle.std.proofs.lemmas.List.{get_or_default}
 use Rattle.mm_tree.specs.Search.{list_of, lists_of, worded}
 use Rattle.mm_label.specs.Fronts.{Label}
-use Rattle.mm_lists.specs.Full.{Word, or_empty, Deepest}
+use Rattle.mm_lists.specs.Full.{Word, Deepest}
+use Rattle.mm_lists.specs.Inside.Narrowing.{or_empty}
 use Rattle.mm_lists.specs.Lists.{head_of}
 use Rattle.mm_lists.specs.Facts.Formed.{formed}
 use Rattle.mm_lists.specs.Facts.Listed.{full_at}
-use Rattle.mm_slca.specs.Walk.{Stands, finished}
+use Rattle.mm_slca.specs.Inside.Walk.{Stands, finished}
 use Rattle.mm_lists.specs.Facts.Shortest.{steps_so_far}
 use Rattle.mm_slca.proofs.Cost.{slca_is}
 use Rattle.mm_slca.proofs.Walking.{stands_first, stands_end}

@@ -4,8 +4,9 @@ use Rattle.mm_tree.specs.Trees.{Trees}
 use Rattle.mm_tree.specs.Numbering.{Labelled}
 use Rattle.mm_tree.specs.Forests.{is_well_formed}
 use Rattle.mm_tree.specs.Search.{list_of, lists_of, worded}
-use Rattle.mm_lists.specs.Full.{Full, or_empty}
-use Rattle.mm_slca.specs.Walk.{Stands}
+use Rattle.mm_lists.specs.Full.{MeetsAll}
+use Rattle.mm_lists.specs.Inside.Narrowing.{or_empty}
+use Rattle.mm_slca.specs.Inside.Walk.{Stands}
 use Rattle.mm_slca.proofs.search.walk_list.Given as goal
 
 abbrev pub invariant-loop-i : goal.invariant-loop-i
@@ -15,6 +16,6 @@ invariant-loop-i g l = record {
   later : g.X.Lists.fault_count l.fn.lists ≤ g.X.Lists.fault_count l.lists;
   unspent : g.X.Lists.spent l.lists ≡ true → g.X.Lists.spent l.fn.lists ≡ true;
   cost : l.steps + l.i ≤ l.initial.steps + 2 * length l.words * l.i;
-  value : (f : Trees Labelled) → IsTrue (is_well_formed f) → g.X.Lists.stands l.fn.lists f → Full [] (lists_of l.words (worded f))
+  value : (f : Trees Labelled) → IsTrue (is_well_formed f) → g.X.Lists.stands l.fn.lists f → MeetsAll [] (lists_of l.words (worded f))
       → Stands (lists_of l.words (worded f)) (list_of (get_or l.words l.own []) (worded f)) l.i l.walk.done (or_empty l.walk.held) l.at;
 }

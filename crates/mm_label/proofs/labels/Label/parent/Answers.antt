@@ -1,5 +1,5 @@
 use Rattle.std.proofs.Common.{◌≡◌, subst, rules, take, ℕ, List}
-use Rattle.mm_label.specs.Reading.{StartsLastSegment}
+use Rattle.mm_label.specs.Inside.Reading.{StartsLastSegment}
 use Rattle.mm_label.proofs.HeldFacts.{parent_made, parent_gives, no_parent}
 use Rattle.mm_label.proofs.labels.Label.parent.Goals as goal
 

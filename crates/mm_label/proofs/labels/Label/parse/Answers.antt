@@ -1,6 +1,7 @@
 use Rattle.std.proofs.Common.{List, ℤ, ap, subst, ◌∙◌, ◌++◌, option_map}
 use Rattle.mm_label.specs.Bytes.{bytes_of}
-use Rattle.mm_label.specs.Text.{text_of, IsOnlyReading}
+use Rattle.mm_label.specs.Text.{text_of}
+use Rattle.mm_label.specs.Inside.Numbers.{IsOnlyReading}
 use Rattle.mm_label.proofs.Texts.{parsed_text, pushed_components}
 use Rattle.mm_label.proofs.labels.Label.parse.Goals as goal
 

@@ -1,6 +1,6 @@
 use Rattle.std.proofs.Common.{ap, sym, ◌∙◌, true, false}
 use Rattle.std.specs.Prelude.{Some, option_map}
-use Rattle.mm_label.specs.Answers.{front_of}
+use Rattle.mm_label.specs.Refusals.{front_of}
 use Rattle.mm_tree.proofs.GapFacts.{gaps_none, gaps_at}
 use Rattle.mm_tree.proofs.forest.opening.+opening_in.Goals as goal
 

@@ -6,7 +6,8 @@ use Rattle.mm_tree.specs.declared.fragment.Fragment.{Fragment}
 use Rattle.mm_tree.specs.Trees.{Trees}
 use Rattle.mm_tree.specs.Numbering.{Labelled}
 use Rattle.mm_tree.specs.Fragments.{Named, fragment_tree, fragment_trees}
-use Rattle.mm_fragment.specs.Rebuild.{below, behind}
+use Rattle.mm_tree.specs.Formed.{name_label}
+use Rattle.mm_tree.specs.Rebuild.{below, behind}
 use Rattle.mm_fragment.specs.Showing.{shown_at}
 
 -- the trees on the stack, in document order
@@ -23,8 +24,8 @@ TakesOff x old new (Some t) = (old ≡ new ++ t ∷ []) × (is_front x (label_of
 
 -- what lies at or below x is taken off, in document order
 pub record TakesBelow (x : Label) (old new off : List Fragment) : Type 0 where
-  pub taken : fragment_trees off ≡ below x (piled old)
-  pub left : piled new ≡ behind x (piled old)
+  pub taken : fragment_trees off ≡ below name_label x (piled old)
+  pub left : piled new ≡ behind name_label x (piled old)
 
 -- what the fragments show of these nodes, one by one
 abbrev pub shown_all : List (List ℕ) → Trees Labelled → List Mark → List Named

@@ -1,7 +1,7 @@
 -- The children of a node on the way to nodes below it.
 use Rattle.std.specs.Prelude.{List, [], ◌∷◌, ◌≡◌, ◌⊎◌}
 use Rattle.mm_label.specs.Label.{whole}
-use Rattle.mm_label.specs.Fronts.{Label, Front, Apart, Within, IsChild}
+use Rattle.mm_label.specs.Fronts.{Label, Front, Apart, Within, Ordered, IsChild}
 
 -- nodes below x
 abbrev pub AreBelow : Label → List Label → Type 0
@@ -16,8 +16,7 @@ AreChildrenTo x (t ∷ ts) (k ∷ ks) = (IsChild x k × Front k t) × AreChildre
 
 -- each is what comes after it, or before that and all below it
 abbrev pub RiseOrStay : List Label → Type 0
-RiseOrStay [] = Unit {0}
-RiseOrStay (k ∷ ks) = ((j : Label) → Within j ks → (k ≡ j) ⊎ Apart k j) × RiseOrStay ks
+RiseOrStay = Ordered (λ k j. (k ≡ j) ⊎ Apart k j)
 
 -- children of x in document order, maybe more than once
 abbrev pub AreChildren : Label → List Label → Type 0

@@ -1,16 +1,14 @@
 -- The walk over the candidates from the last to the first, and what its stack holds.
 use Rattle.std.specs.Prelude.{true, false, Option, Some, None, List, [], ◌∷◌, ◌++◌, ◌≡◌, ◌⊎◌}
-use Rattle.mm_label.specs.Fronts.{Label, Front, is_front, Apart, Within, Lt}
+use Rattle.mm_label.specs.Fronts.{Label, Front, is_front, Apart, Within, Ordered, Lt}
 use Rattle.mm_lists.specs.Full.{Rising}
 
 -- each comes after all that stand later, and lies below none of them
 abbrev pub Falling : List Label → Type 0
-Falling [] = Unit {0}
-Falling (d ∷ ds) = ((m : Label) → Within m ds → Apart m d) × Falling ds
+Falling = Ordered (λ d m. Apart m d)
 
 abbrev pub Descends : List Label → Type 0
-Descends [] = Unit {0}
-Descends (d ∷ ds) = ((m : Label) → Within m ds → Lt m d) × Descends ds
+Descends = Ordered (λ d m. Lt m d)
 
 -- the topmost of those that were passed, the first of them last
 pub record Stacked (passed stack : List Label) : Type 0 where

@@ -16,12 +16,12 @@ is_under x None = false
 is_under x (Some p) = is_front x p
 
 -- the list has a node at or below x outside these children, or it has none
-abbrev pub Tells : List Label → Label → List Label → Bool → Type 0
-Tells ms x ks true = (p : Label) × Within p ms × Front x p × Clear ks p
-Tells ms x ks false = (p : Label) → Within p ms → Front x p → Clear ks p → ⊥
+abbrev pub HasClear : List Label → Label → List Label → Bool → Type 0
+HasClear ms x ks true = (p : Label) × Within p ms × Front x p × Clear ks p
+HasClear ms x ks false = (p : Label) → Within p ms → Front x p → Clear ks p → ⊥
 
 -- each of the lists has one, or one of them has none
-abbrev pub TellsAll : List (List Label) → Label → List Label → Bool → Type 0
-TellsAll [] x ks b = b ≡ true
-TellsAll (ms ∷ ls) x ks true = Tells ms x ks true × TellsAll ls x ks true
-TellsAll (ms ∷ ls) x ks false = Tells ms x ks false ⊎ TellsAll ls x ks false
+abbrev pub HaveClear : List (List Label) → Label → List Label → Bool → Type 0
+HaveClear [] x ks b = b ≡ true
+HaveClear (ms ∷ ls) x ks true = HasClear ms x ks true × HaveClear ls x ks true
+HaveClear (ms ∷ ls) x ks false = HasClear ms x ks false ⊎ HaveClear ls x ks false

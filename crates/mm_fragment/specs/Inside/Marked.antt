@@ -2,14 +2,9 @@
 use Rattle.std.specs.Prelude.{ℕ, ◌+◌, ◌*◌, ◌^◌, Bool, not, ◌&&◌, List, [], ◌∷◌, cond, if◌then◌else◌}
 use Rattle.std.specs.List.{list_any}
 use Rattle.mm_match.specs.declared.mark.Mark.{Mark}
-use Rattle.mm_tree.specs.Trees.{Trees, none, node}
+use Rattle.mm_tree.specs.Trees.{Trees, none, node, each}
 use Rattle.mm_tree.specs.Search.{is_full}
 use Rattle.mm_tree.specs.Fragments.{Named, bare, bares, row_of, some, less, shown}
-
--- trees of the same shape, with something else at each node
-abbrev pub each : {A B : Type 0} → (A → B) → Trees A → Trees B
-each f none = none
-each f (node a inner rest) = node (f a) (each f inner) (each f rest)
 
 -- a node, and for each word of the query whether it or a node below it holds the word
 pub record Rowed : Type 0 where
@@ -38,12 +33,12 @@ show_all query f = each (λ m. shown query m.entry) f
 -- ---- rows as masks
 
 -- bit i of the number is the row's i-th flag, counted from 0
-abbrev pub number : List Bool → ℕ
-number [] = 0
-number (flag ∷ row) = number row * 2 ^ 1 + cond flag 1 0
+abbrev pub mask_of : List Bool → ℕ
+mask_of [] = 0
+mask_of (flag ∷ row) = mask_of row * 2 ^ 1 + cond flag 1 0
 
 abbrev pub mark_of : Rowed → Mark
-mark_of m = record { label = m.entry.label; mask = number m.row }
+mark_of m = record { label = m.entry.label; mask = mask_of m.row }
 
 abbrev pub coded : Trees Rowed → Trees Mark
 coded f = each mark_of f

@@ -1,0 +1,5 @@
+-- What the calls within this crate know.
+pub mod Children
+pub mod Gathering
+pub mod Marked
+pub mod Piling

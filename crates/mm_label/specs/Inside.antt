@@ -1,0 +1,3 @@
+-- What the calls within this crate know.
+pub mod Reading
+pub mod Numbers

@@ -1,0 +1,7 @@
+-- What follows from the definitions, for the proofs of the crates above.
+pub mod Formed
+pub mod Places
+pub mod Subforests
+pub mod Nodes
+pub mod Runs
+pub mod Rebuild
