@@ -8,7 +8,8 @@ use Rattle.mm_label.specs.Facts.Fronts.{front_yes, front_no, front_trans, front_
 use Rattle.mm_lists.specs.Facts.Candidates.{full_above}
 use Rattle.mm_lists.specs.Facts.Nearest.{RightMatch}
 use Rattle.mm_label.specs.Facts.Order.{past_apart, apart_past, le_of}
-use Rattle.mm_label.specs.Facts.Lists.{contains_of, within_of, within_longer, within_last, within_cases}
+use Rattle.mm_label.specs.Facts.Lists.{within_longer, within_last, within_cases}
+use Rattle.mm_label.specs.Facts.Members.{contains_of, within_of}
 use Rattle.mm_elca.specs.Children.{AreBelow, AreChildrenTo, AreChildren, RiseOrStay, IsNextChild}
 use Rattle.mm_elca.specs.Clear.{Clear, IsFirstClear, is_under, Tells, TellsAll}
 use Rattle.mm_elca.specs.Owning.{IsOwn}

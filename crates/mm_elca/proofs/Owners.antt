@@ -11,7 +11,9 @@ use Rattle.mm_tree.specs.Elca.{outside, owns, elca}
 use Rattle.mm_label.specs.Facts.Fronts.{front_refl, front_trans, front_antisym, apart_below, below_apart, le_antisym}
 use Rattle.mm_lists.specs.Facts.Below.{NodeOf, node_below, node_after, HasBelow, AllBelow, AllOne, full_of, of_full}
 use Rattle.mm_label.specs.Facts.Children.{under}
-use Rattle.mm_label.specs.Facts.Lists.{within_joined, within_own, apart_lt, lt_below, ascends_joined, ascends_own}
+use Rattle.mm_label.specs.Facts.Lists.{within_own, apart_lt, lt_below, ascends_own}
+use Rattle.mm_label.specs.Facts.Ordered.{ordered_joined}
+use Rattle.mm_label.specs.Facts.Members.{within_joined}
 
 -- the node m holds the word itself
 abbrev pub HasAt : Label → Word → Trees Worded → Type 0
@@ -274,9 +276,9 @@ elca_ascends query y none all p = tt
 elca_ascends query y (node e inner rest) all p =
     let pi = placed_inner all e inner rest y p in
     let pr = placed_rest all e inner rest y p in
-    ascends_joined (cond (owns query query e inner) (e.label ∷ []) []) (elca query inner ++ elca query rest)
+    ordered_joined Lt (cond (owns query query e inner) (e.label ∷ []) []) (elca query inner ++ elca query rest)
     (ascends_own (owns query query e inner) e.label)
-    (ascends_joined (elca query inner) (elca query rest) (elca_ascends query e.label inner all pi) (elca_ascends query y rest all pr)
+    (ordered_joined Lt (elca query inner) (elca query rest) (elca_ascends query e.label inner all pi) (elca_ascends query y rest all pr)
     (λ u r a b. apart_lt u r (below_apart e.label u r (node_after e.label y r rest p.wf.3 p.wf.2 (elca_owns query all rest y r pr b).0) (node_below e.label u inner p.wf.1 (elca_owns query all inner e.label u pi a).0).0)))
     (λ u r a b. subst (λ (t : Label). Lt t r) (sym (within_own (owns query query e inner) e.label u a)) (elim (within_joined r (elca query inner) (elca query rest) b) [
       | inl k ↦ let t = node_below e.label r inner p.wf.1 (elca_owns query all inner e.label r pi k).0 in lt_below e.label r t.0 t.1

@@ -13,7 +13,7 @@ use Rattle.std.proofs.lemmas.Bool.Decides.{Decides-int_eq}
 use Rattle.std.proofs.lemmas.Slice.Eq.{slice_eq-Decides}
 use Rattle.mm_label.specs.Fronts.{Label, Lt, Within, Ascends}
 use Rattle.mm_label.specs.Facts.Order.{before_lt}
-use Rattle.mm_label.specs.Facts.Lists.{contains_of, within_of}
+use Rattle.mm_label.specs.Facts.Members.{contains_of, within_of}
 use Rattle.mm_elca.specs.Owning.{IsInOrder}
 
 before_all : (x m : Label) (ms : List Label) → AllByRecursion (λ y. slice_cmp int_cmp x y ≡ Less) ms → Within m ms → Lt x m

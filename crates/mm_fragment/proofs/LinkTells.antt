@@ -16,7 +16,8 @@ use Rattle.mm_tree.specs.Owners.{SmallestAreExclusive, ExclusiveAreFull}
 use Rattle.mm_fragment.proofs.LinkFormed.{ApartFrom, Formed}
 use Rattle.mm_fragment.specs.Matching.{Reaches, TellsAll}
 use Rattle.mm_fragment.specs.Telling.{SmallestTell, ExclusiveTell}
-use Rattle.mm_label.specs.Facts.Lists.{contains_of, within_of, within_joined, own_cases, own_of}
+use Rattle.mm_label.specs.Facts.Lists.{own_cases, own_of}
+use Rattle.mm_label.specs.Facts.Members.{contains_of, within_of, within_joined}
 use Rattle.mm_label.specs.Facts.Order.{front_of}
 use Rattle.mm_fragment.proofs.Subtree.{apart_common, within_left, within_right, worded_as}
 use Rattle.mm_fragment.proofs.Open.{bares_named}

@@ -18,7 +18,9 @@ use Rattle.mm_fragment.specs.Showing.{named_in}
 use Rattle.mm_lists.specs.Formed.{WellFormed}
 use Rattle.mm_label.specs.Facts.Fronts.{front_refl, front_antisym, below_apart}
 use Rattle.mm_lists.specs.Facts.Below.{NodeOf, node_below, node_after}
-use Rattle.mm_label.specs.Facts.Lists.{within_joined, ascends_joined, apart_lt, lt_below, own_cases, own_of}
+use Rattle.mm_label.specs.Facts.Lists.{apart_lt, lt_below, own_cases, own_of}
+use Rattle.mm_label.specs.Facts.Ordered.{ordered_joined}
+use Rattle.mm_label.specs.Facts.Members.{within_joined}
 use Rattle.mm_lists.specs.Facts.Listed.{listed_node, list_ascends}
 use Rattle.mm_label.specs.Facts.Children.{same_child}
 use Rattle.mm_lists.specs.Facts.Formed.{formed}
@@ -113,7 +115,7 @@ picks_open y w query e inner rest g p =
     let own = list_of w (bares (node e inner none)) in
     let later = held w (outside_full query rest) in
     record {
-      ascends = ascends_joined own later (list_ascends y w (bares (node e inner none)) (g.0, g.1, tt, tt)) p.ascends
+      ascends = ordered_joined Lt own later (list_ascends y w (bares (node e inner none)) (g.0, g.1, tt, tt)) p.ascends
           (λ u r h q. apart_lt u r (below_apart e.label u r
           (node_after e.label y r (bares rest) g.3 g.2 (listed_node w r (bares rest) (p.from r q).0))
           (holder_front w u (bare e) (bares inner) g.1 (alone w u e inner h))));
@@ -217,7 +219,7 @@ opens x trees e inner w query answers s a t =
     let below : (m : Label) → Within m later → Front x m × (m ≡ x → ⊥) = λ m h. node_below x m (bares inner) g (listed_node w m (bares inner) (p.from m h).0) in
     record {
       is_whole = subst (λ (z : Label). whole z ≡ z) (sym s) a.is_whole;
-      ascends = ascends_joined first later (one_rises (has (bare e) w)) p.ascends (λ u r h q. let k = below r q in subst (λ (z : Label). Lt z r) (sym ((own_cases (has (bare e) w) e.label u h).1 ∙ sym s)) (lt_below x r k.0 k.1));
+      ascends = ordered_joined Lt first later (one_rises (has (bare e) w)) p.ascends (λ u r h q. let k = below r q in subst (λ (z : Label). Lt z r) (sym ((own_cases (has (bare e) w) e.label u h).1 ∙ sym s)) (lt_below x r k.0 k.1));
       from = λ m h. elim (within_joined m first later h) [
         | inl q ↦
             let r = own_cases (has (bare e) w) e.label m q in (

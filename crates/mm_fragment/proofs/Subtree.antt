@@ -12,7 +12,8 @@ use Rattle.mm_tree.specs.Edits as edits
 use Rattle.mm_lists.specs.Formed.{WellFormed}
 use Rattle.mm_label.specs.Facts.Fronts.{front_refl, front_trans, front_antisym, fronts_of_one, front_le, le_antisym}
 use Rattle.mm_lists.specs.Facts.Below.{NodeOf, node_below, node_after}
-use Rattle.mm_label.specs.Facts.Lists.{within_joined, own_cases, own_of}
+use Rattle.mm_label.specs.Facts.Lists.{own_cases, own_of}
+use Rattle.mm_label.specs.Facts.Members.{within_joined}
 use Rattle.mm_lists.specs.Facts.Listed.{listed_node}
 use Rattle.mm_label.specs.Facts.Order.{same_label}
 

@@ -6,7 +6,7 @@ use Rattle.mm_lists.specs.Lists.{IsRight, IsNext, IsRightPast}
 use Rattle.mm_fragment.specs.Gathering.{StandsAt, StandsPast, Walked}
 use Rattle.mm_label.specs.Facts.Fronts.{front_le, le_trans, le_antisym, between_front, apart_trans, below_apart, front_cases}
 use Rattle.mm_label.specs.Facts.Order.{before_lt, lt_before, le_before, le_of, past_apart, apart_past}
-use Rattle.mm_label.specs.Facts.Lists.{contains_of, within_of, within_joined}
+use Rattle.mm_label.specs.Facts.Members.{contains_of, within_of, within_joined}
 use Rattle.mm_fragment.proofs.Subtree.{within_right}
 use Rattle.mm_fragment.proofs.Open.{Opens, Clear}
 

@@ -1,17 +1,23 @@
 -- When a device may answer that it failed.
-use Rattle.std.specs.Prelude.{ℕ, ◌+◌, ◌-◌, ◌^◌, ◌≤◌, min, ◌⊎◌, Result, OnErr}
+use Rattle.std.specs.Prelude.{ℕ, ◌+◌, ◌-◌, ◌^◌, ◌≤◌, ◌≡◌, min, ◌⊎◌, Result, OnOk, OnErr}
+
+-- a count that rises by one, and stands still at its type's end
+abbrev pub next_count : ℕ → ℕ
+next_count n = min (n + 1) (2 ^ 64 - 1)
 
 -- A count rose. It stands still at its type's end, and is said to rise there too.
 abbrev pub Rose : ℕ → ℕ → Type 0
-Rose before now = min (before + 1) (2 ^ 64 - 1) ≤ now
+Rose before now = next_count before ≤ now
 
--- a count of faults never falls, and a failure has raised it
+-- A count of faults never falls. An answer leaves it as it was, and a failure counts once.
 pub record HasCause {T E : Type 0} (before now : ℕ) (result : Result T E) : Type 0 where
   pub later : before ≤ now
-  pub failed : OnErr result (Rose before now)
+  pub answered : OnOk result (now ≡ before)
+  pub failed : OnErr result (now ≡ next_count before)
 
--- neither a disk's count of faults nor its count of wants falls, and a failure has raised one of them
+-- Neither a disk's count of faults nor its count of wants falls. An answer leaves both as they were, and a failure has raised one of them.
 pub record HasDiskCause {T E : Type 0} (faults faults' wants wants' : ℕ) (result : Result T E) : Type 0 where
   pub faults_later : faults ≤ faults'
   pub wants_later : wants ≤ wants'
+  pub answered : OnOk result ((faults' ≡ faults) × (wants' ≡ wants))
   pub failed : OnErr result (Rose faults faults' ⊎ Rose wants wants')

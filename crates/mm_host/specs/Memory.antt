@@ -1,5 +1,6 @@
 -- A source and a sink in memory.
-use Rattle.std.specs.Prelude.{ℕ, ◌+◌, ◌-◌, ◌^◌, ◌<◌, min, List, Contains, ◌⊎◌, ◌≡◌}
+use Rattle.std.specs.Prelude.{ℕ, ◌-◌, ◌<◌, Result, Ok, Err, List, Contains, ◌⊎◌, ◌≡◌}
+use Rattle.mm_host.specs.Causes.{next_count}
 
 -- the bytes left, the calls so far, which calls fail, and how many did
 pub record SourceState : Type 0 where
@@ -16,10 +17,6 @@ pub record SinkState : Type 0 where
   pub failing : List ℕ
   pub faults : ℕ
 
--- a count that rises by one, and stands still at its type's end
-abbrev pub next_count : ℕ → ℕ
-next_count n = min (n + 1) (2 ^ 64 - 1)
-
 -- the call that comes after so many is listed
 abbrev pub IsListed : List ℕ → ℕ → Type 0
 IsListed failing calls = Contains failing (next_count calls)
@@ -27,3 +24,8 @@ IsListed failing calls = Contains failing (next_count calls)
 -- A write has to fail: its call is listed, or no room is left for a piece of so many bytes.
 abbrev pub MustFail : SinkState → ℕ → Type 0
 MustFail sink size = IsListed sink.failing sink.calls ⊎ ((sink.room ≡ 0) × (0 < size))
+
+-- the room after a write: less by what was taken, and the same where the write failed
+abbrev pub room_after : {E : Type 0} → ℕ → Result ℕ E → ℕ
+room_after room (Ok n) = room - n
+room_after room (Err e) = room

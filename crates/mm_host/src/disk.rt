@@ -1,7 +1,6 @@
 // The disk: two areas of bytes.
 ghost use Rattle.std.specs.Prelude.{◌≡◌, ◌≤◌, ℕ, IsErr};
-ghost use Rattle.mm_host.specs.Causes.{Rose, HasDiskCause};
-ghost use Rattle.mm_host.specs.Memory.{next_count};
+ghost use Rattle.mm_host.specs.Causes.{Rose, HasDiskCause, next_count};
 
 use crate::failed::Failed;
 use std::marker::Model;

@@ -2,9 +2,9 @@
 ghost use Rattle.std.specs.Prelude.{◌≡◌, ℕ, ◌≤◌, ◌-◌, ◌+◌, List, Some, [], length, take, min, IsErr, IfOk, ◌↔◌, vec_len, vec_capacity};
 ghost use Rattle.std.specs.declared.option.Option.{Option};
 ghost use Rattle.std.specs.Io.{WritesAtMost};
-ghost use Rattle.mm_host.specs.Causes.{HasCause};
+ghost use Rattle.mm_host.specs.Causes.{HasCause, next_count};
 ghost use Rattle.mm_host.specs.Moves.{Writes};
-ghost use Rattle.mm_host.specs.Memory.{SinkState, next_count, MustFail};
+ghost use Rattle.mm_host.specs.Memory.{SinkState, MustFail, room_after};
 
 use crate::failed::Failed;
 use crate::sink::Sink;
@@ -68,6 +68,7 @@ impl Sink for MemSink {
         ensures cause { HasCause self.old.faults self.new.faults result }
         ensures listed { IsErr result ↔ MustFail self.old (length piece.now) }
         ensures count { IfOk result (λ n. n ≡ min (length piece.now) self.old.room) }
+        ensures room { self.new.room ≡ room_after self.old.room result }
         ensures calls { self.new.calls ≡ next_count self.old.calls }
         ensures failing { self.new.failing ≡ self.old.failing }
     {

@@ -2,9 +2,9 @@
 ghost use Rattle.std.specs.Prelude.{◌≡◌, ℕ, ◌+◌, ◌≤◌, Ok, List, Some, length, drop, min, IsErr, IfOk, OnErr, ◌↔◌, vec_len, IsTrue, Contains};
 ghost use Rattle.std.specs.declared.option.Option.{Option};
 ghost use Rattle.std.specs.Io.{ReadsAtMost};
-ghost use Rattle.mm_host.specs.Causes.{HasCause};
+ghost use Rattle.mm_host.specs.Causes.{HasCause, next_count};
 ghost use Rattle.mm_host.specs.Moves.{Reads};
-ghost use Rattle.mm_host.specs.Memory.{SourceState, next_count, IsListed};
+ghost use Rattle.mm_host.specs.Memory.{SourceState, IsListed};
 
 use crate::failed::Failed;
 use crate::source::Source;

@@ -1,4 +1,4 @@
--- Order and ancestry of labels as recursions, and lists of labels. A label is a list of whole numbers here,
+-- Order and ancestry of labels as recursions, members of lists, and lists in order. A label is a list of whole numbers here,
 -- and the empty one stands above all trees.
 use Rattle.std.specs.Prelude.{ℤ, Bool, true, false, ◌&&◌, List, [], ◌∷◌, ◌≡◌, ◌⊎◌, ◌<ℤ◌, Option, Some, None}
 use Rattle.std.specs.Ordering.{int_eq}
@@ -66,14 +66,18 @@ pub record IsChild (y x : Label) : Type 0 where
 
 -- ---- lists
 
-abbrev pub Within : Label → List Label → Type 0
+abbrev pub Within : {A : Type 0} → A → List A → Type 0
 Within x [] = ⊥
 Within x (m ∷ ms) = (x ≡ m) ⊎ Within x ms
 
+-- each stands in R to all behind it
+abbrev pub Ordered : {A : Type 0} → (A → A → Type 0) → List A → Type 0
+Ordered R [] = Unit {0}
+Ordered {A} R (d ∷ ds) = ((m : A) → Within m ds → R d m) × Ordered R ds
+
 -- each comes before all after it
 abbrev pub Ascends : List Label → Type 0
-Ascends [] = Unit {0}
-Ascends (d ∷ ds) = ((m : Label) → Within m ds → Lt d m) × Ascends ds
+Ascends = Ordered Lt
 
 -- the label or one below it is in the list
 abbrev pub Meets : Label → List Label → Type 0

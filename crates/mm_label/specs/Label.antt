@@ -1,7 +1,8 @@
 -- Labels with careted insertion, after ORDPATH (O'Neil, O'Neil, Pal, Cseri, Schaller, Westbury:
 -- "ORDPATHs: Insert-Friendly XML Node Labels", SIGMOD 2004).
-use Rattle.std.specs.Prelude.{ℕ, ℤ, pos, negsuc, ◌≤◌, ◌%◌, ◌==◌, Bool, true, false, ◌&&◌, IsTrue, ◌⊎◌, nat_lt, if◌then◌else◌, List, [], ◌∷◌, ◌++◌, ◌≡◌, refl, length, count_by}
+use Rattle.std.specs.Prelude.{ℕ, ℤ, pos, negsuc, ◌≤◌, ◌%◌, ◌==◌, Bool, true, false, ◌&&◌, IsTrue, ◌⊎◌, nat_lt, if◌then◌else◌, List, [], ◌∷◌, ◌++◌, ◌≡◌, refl, length, count_by, drop}
 use Rattle.std.specs.Cmp.Lexicographic.{slice_cmp}
+use Rattle.std.specs.List.{starts_with}
 use Rattle.std.specs.Ordering.{int_cmp, int_eq}
 use Rattle.std.specs.declared.cmp.Ordering.TheVariants.{Less}
 use Rattle.mm_label.specs.Bytes.{bytes_of}
@@ -62,6 +63,10 @@ pub record IsParent (parent cs : List ℤ) : Type 0 where
   pub segment : List ℤ
   pub one : IsTrue (is_segment segment)
   pub parts : cs ≡ parent ++ segment
+
+-- x is y and one segment
+abbrev pub is_child : List ℤ → List ℤ → Bool
+is_child y x = starts_with int_eq x y && is_segment (drop (length y) x)
 
 -- the label is what stands before its last segment, nothing or a label, and this segment
 pub record IsLastSegment (cs front segment : List ℤ) : Type 0 where

@@ -18,7 +18,7 @@ use Rattle.mm_lists.specs.Memory.{is_through, list_in, AreOf}
 use Rattle.mm_lists.specs.Lists.{IsFirst, IsLast, IsLeft, IsRight, IsNext, IsRightPast}
 use Rattle.mm_label.specs.Facts.Fronts.{front_yes, front_no, is_front_of, le_total, between_front}
 use Rattle.mm_label.specs.Facts.Order.{before_lt, le_before, lt_before, front_of, ancestor_of}
-use Rattle.mm_label.specs.Facts.Lists.{within_of}
+use Rattle.mm_label.specs.Facts.Members.{within_of}
 use Rattle.mm_label.specs.Facts.Places.{before_trans, le_true, le_false, true_le, lt_true, lt_false, before_not, get_none, get_some, same_at, at_or_before}
 use Rattle.mm_lists.specs.Facts.Formed.{formed}
 use Rattle.mm_lists.specs.Facts.Listed.{list_ascends}

@@ -4,3 +4,4 @@ pub mod Thinning
 pub mod PathFacts
 pub mod Listing
 pub mod Siblings
+pub mod Contributing

@@ -2,6 +2,7 @@
 //! and Chen: "Reasoning and Identifying Relevant Matches for XML Keyword Search", VLDB 2008).
 #![tactic(auto)]
 
+pub mod laws;
 mod mark;
 mod parents;
 mod paths;

@@ -8,7 +8,8 @@ use Rattle.mm_tree.specs.Trees.{Trees, none, node}
 use Rattle.mm_tree.specs.Search.{Worded, is_full, some_full, slca, lists_of}
 use Rattle.mm_lists.specs.Formed.{WellFormed}
 use Rattle.mm_label.specs.Facts.Fronts.{front_refl, front_trans, below_apart, front_cases}
-use Rattle.mm_label.specs.Facts.Lists.{meets_above, meets_left, meets_right, within_joined}
+use Rattle.mm_label.specs.Facts.Lists.{meets_above, meets_left, meets_right}
+use Rattle.mm_label.specs.Facts.Members.{within_joined}
 use Rattle.mm_lists.specs.Facts.Below.{NodeOf, node_below, node_after, AllBelow, AllOne, full_of, of_full, all_one, all_after, all_inner, rising_joined, full_lists, lists_full}
 
 -- ---- at one node, then at all

@@ -15,11 +15,13 @@ pub mod UntouchedLaws
 pub mod OpenFacts
 pub mod SizeFacts
 pub mod EditFacts
+pub mod StayingLaws
 pub mod TestFacts
 pub mod FlagFacts
 pub mod SearchFacts
 pub mod SmallestLaws
 pub mod OwnerFacts
 pub mod OwnerLaws
+pub mod ExclusiveLaws
 pub mod FragmentLaws
 pub mod FragmentFacts

@@ -96,7 +96,7 @@ last_node left (m ∷ k ∷ ns) n h =
     let g : slice_get (k ∷ ns) (length ns) ≡ Some n = ap (λ z. slice_get (m ∷ k ∷ ns) z) (sym i) ∙ h in
     last_node (Some (node_of m).0.label) (k ∷ ns) n (ap (λ z. slice_get (k ∷ ns) z) j ∙ g)
 
-last_whole : (left : Option (List ℤ)) (ts : Trees Labelled) (s : List ℤ) → are_labelled [] left ts ≡ true → IfSome left (λ l. is_segment l ≡ true) → last_segment [] left ts ≡ Some s → is_segment s ≡ true
+pub last_whole : (left : Option (List ℤ)) (ts : Trees Labelled) (s : List ℤ) → are_labelled [] left ts ≡ true → IfSome left (λ l. is_segment l ≡ true) → last_segment [] left ts ≡ Some s → is_segment s ≡ true
 last_whole left none s l h e = by_left left h e
   where
     by_left : (left : Option (List ℤ)) → IfSome left (λ l. is_segment l ≡ true) → left ≡ Some s → is_segment s ≡ true

@@ -50,13 +50,13 @@ owns_full query (w ∷ words) e inner h =
 
 -- ---- members
 
-abbrev mine : List (List ℕ) → Worded → Trees Worded → List (List ℤ)
+abbrev pub mine : List (List ℕ) → Worded → Trees Worded → List (List ℤ)
 mine query e inner = cond (owns query query e inner) (e.label ∷ []) []
 
-mine_is : (query : List (List ℕ)) (e : Worded) (inner : Trees Worded) → owns query query e inner ≡ true → Within e.label (mine query e inner)
+pub mine_is : (query : List (List ℕ)) (e : Worded) (inner : Trees Worded) → owns query query e inner ≡ true → Within e.label (mine query e inner)
 mine_is query e inner h = subst (λ b. Within e.label (cond b (e.label ∷ []) [])) (sym h) (inl refl)
 
-mine_only : (query : List (List ℕ)) (e : Worded) (inner : Trees Worded) (x : List ℤ) → Within x (mine query e inner) → (owns query query e inner ≡ true) × (x ≡ e.label)
+pub mine_only : (query : List (List ℕ)) (e : Worded) (inner : Trees Worded) (x : List ℤ) → Within x (mine query e inner) → (owns query query e inner ≡ true) × (x ≡ e.label)
 mine_only query e inner x w = by (owns query query e inner) refl w
   where
     by : (b : Bool) → owns query query e inner ≡ b → Within x (cond b (e.label ∷ []) []) → (owns query query e inner ≡ true) × (x ≡ e.label)
@@ -77,7 +77,7 @@ smallest_owns query (node e inner rest) x w = elim (in_joined x (part query e in
     by true false f s (inr v) up = absurd v
     by false s f k v up = absurd v
 
-owner_full : (query : List (List ℕ)) (ts : Trees Worded) (x : List ℤ) → Within x (elca query ts) → Within x (full_nodes query ts)
+pub owner_full : (query : List (List ℕ)) (ts : Trees Worded) (x : List ℤ) → Within x (elca query ts) → Within x (full_nodes query ts)
 owner_full query none x w = w
 owner_full query (node e inner rest) x w = elim (in_joined x (mine query e inner) (elca query inner ++ elca query rest) w) [
   | inl m ↦ let k = mine_only query e inner x m in subst (λ y. Within y (full_nodes query (node e inner rest))) (sym k.1) (full_here query e inner rest (owns_full query query e inner k.0))

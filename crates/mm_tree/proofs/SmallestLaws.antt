@@ -55,11 +55,11 @@ each_from P (x ∷ xs) f = (f x (inl refl), each_from P xs (λ z w. f z (inr w))
 
 -- ---- full nodes
 
-abbrev seen : Labelled → Worded
+abbrev pub seen : Labelled → Worded
 seen e = record { label = e.label; words = own e.kind }
 
 -- a full node at the root, among its children and below them, or behind
-full_cases : (query : List (List ℕ)) (e : Worded) (inner rest : Trees Worded) (x : List ℤ) → Within x (full_nodes query (node e inner rest))
+pub full_cases : (query : List (List ℕ)) (e : Worded) (inner rest : Trees Worded) (x : List ℤ) → Within x (full_nodes query (node e inner rest))
     → ((is_full query e inner ≡ true) × (x ≡ e.label)) ⊎ (Within x (full_nodes query inner) ⊎ Within x (full_nodes query rest))
 full_cases query e inner rest x w = by_test (is_full query e inner) refl w
   where
@@ -97,7 +97,7 @@ part_here : (query : List (List ℕ)) (e : Worded) (inner : Trees Worded) → is
 part_here query e inner f g = subst (λ ls. Within e.label ls) (sym (ap₂ (λ b c. cond b (cond c (slca query inner) (e.label ∷ [])) []) f g)) (inl refl)
 
 -- a full node at or below these roots makes one of them full
-full_root : (query : List (List ℕ)) (ts : Trees Worded) (x : List ℤ) → Within x (full_nodes query ts) → some_full query ts ≡ true
+pub full_root : (query : List (List ℕ)) (ts : Trees Worded) (x : List ℤ) → Within x (full_nodes query ts) → some_full query ts ≡ true
 full_root query none x w = absurd w
 full_root query (node e inner rest) x w = elim (full_cases query e inner rest x w) [
   | inl h ↦ ap (λ b. b || some_full query rest) h.0
@@ -134,7 +134,7 @@ some_answer query (node e inner rest) h = by_tests (is_full query e inner) (some
 is_label : (x : List ℤ) (e : Labelled) → e.label ≡ x → edits.has_label x e ≡ true
 is_label x e = (slice_eq-Decides Decides-int_eq e.label x (edits.has_label x e) refl).1
 
-here_under : (y : List ℤ) (left : Option (List ℤ)) (e : Labelled) (inner rest : Trees Labelled) → Parts y left e inner rest → Under y left e.label
+pub here_under : (y : List ℤ) (left : Option (List ℤ)) (e : Labelled) (inner rest : Trees Labelled) → Parts y left e inner rest → Under y left e.label
 here_under y left e inner rest p = record {
   segment = segment_below y e.label;
   more = [];
@@ -143,7 +143,7 @@ here_under y left e inner rest p = record {
   above = p.above;
 }
 
-inside_under : (y : List ℤ) (left : Option (List ℤ)) (e : Labelled) (inner rest : Trees Labelled) → Parts y left e inner rest → (x : List ℤ) → Under e.label None x → Under y left x
+pub inside_under : (y : List ℤ) (left : Option (List ℤ)) (e : Labelled) (inner rest : Trees Labelled) → Parts y left e inner rest → (x : List ℤ) → Under e.label None x → Under y left x
 inside_under y left e inner rest p x u = record {
   segment = segment_below y e.label;
   more = u.segment ++ u.more;
@@ -152,10 +152,10 @@ inside_under y left e inner rest p x u = record {
   above = p.above;
 }
 
-behind_under : (y : List ℤ) (left : Option (List ℤ)) (e : Labelled) (inner rest : Trees Labelled) → Parts y left e inner rest → (x : List ℤ) → Under y (Some (segment_below y e.label)) x → Under y left x
+pub behind_under : (y : List ℤ) (left : Option (List ℤ)) (e : Labelled) (inner rest : Trees Labelled) → Parts y left e inner rest → (x : List ℤ) → Under y (Some (segment_below y e.label)) x → Under y left x
 behind_under y left e inner rest p x u = record { segment = u.segment; more = u.more; is = u.is; whole = u.whole; above = rises_more left (segment_below y e.label) u.segment p.above u.above }
 
-full_under : (query : List (List ℕ)) (y : List ℤ) (left : Option (List ℤ)) (ts : Trees Labelled) → are_labelled y left ts ≡ true → (x : List ℤ) → Within x (full_nodes query (worded ts)) → Under y left x
+pub full_under : (query : List (List ℕ)) (y : List ℤ) (left : Option (List ℤ)) (ts : Trees Labelled) → are_labelled y left ts ≡ true → (x : List ℤ) → Within x (full_nodes query (worded ts)) → Under y left x
 full_under query y left none l x w = absurd w
 full_under query y left (node e inner rest) l x w =
     let p = parts y left e inner rest l in
@@ -167,7 +167,7 @@ full_under query y left (node e inner rest) l x w =
       ]
     ]
 
-true_false : true ≡ false → ⊥
+pub true_false : true ≡ false → ⊥
 true_false e = absurd cc
 
 -- two siblings' segments begin no common label
@@ -177,7 +177,7 @@ no_clash y s r t n p q less e =
     true_false (sym less ∙ ap (λ z. is_before s z) (sym same) ∙ before_irreflexive s)
 
 -- no label at or below a node is at or below a node behind it
-not_behind : (y : List ℤ) (left : Option (List ℤ)) (e : Labelled) (inner rest : Trees Labelled) → Parts y left e inner rest → (x z : List ℤ) → Under y (Some (segment_below y e.label)) x → IsAncestorOrSelf e.label z → IsAncestorOrSelf x z → ⊥
+pub not_behind : (y : List ℤ) (left : Option (List ℤ)) (e : Labelled) (inner rest : Trees Labelled) → Parts y left e inner rest → (x z : List ℤ) → Under y (Some (segment_below y e.label)) x → IsAncestorOrSelf e.label z → IsAncestorOrSelf x z → ⊥
 not_behind y left e inner rest p x z u a b =
     let s = segment_below y e.label in
     no_clash y s a.0 u.segment (u.more ++ b.0) p.whole u.whole u.above
@@ -185,20 +185,20 @@ not_behind y left e inner rest p x z u a b =
     ∙ b.1 ∙ ap (λ w. w ++ b.0) u.is ∙ append_assoc y (u.segment ++ u.more) b.0 ∙ ap (λ w. y ++ w) (append_assoc u.segment u.more b.0))
 
 -- a node is not below one below it
-not_above : (y x : List ℤ) → Under y None x → IsAncestorOrSelf x y → ⊥
+pub not_above : (y x : List ℤ) → Under y None x → IsAncestorOrSelf x y → ⊥
 not_above y x u a = by_segment u.segment u.whole (cancel y [] ((u.segment ++ u.more) ++ a.0) (append-nil y ∙ a.1 ∙ ap (λ w. w ++ a.0) u.is ∙ append_assoc y (u.segment ++ u.more) a.0))
   where
     by_segment : (s : List ℤ) → is_segment s ≡ true → [] ≡ (s ++ u.more) ++ a.0 → ⊥
     by_segment [] w e = true_false (sym w)
     by_segment (c ∷ s) w e = absurd cc
 
-itself : (x : List ℤ) → IsAncestorOrSelf x x
+pub itself : (x : List ℤ) → IsAncestorOrSelf x x
 itself x = ([], sym (append-nil x))
 
-below : (y x : List ℤ) → Under y None x → IsAncestorOrSelf y x
+pub below : (y x : List ℤ) → Under y None x → IsAncestorOrSelf y x
 below y x u = (u.segment ++ u.more, u.is)
 
-through : (x y z : List ℤ) → IsAncestorOrSelf x y → IsAncestorOrSelf y z → IsAncestorOrSelf x z
+pub through : (x y z : List ℤ) → IsAncestorOrSelf x y → IsAncestorOrSelf y z → IsAncestorOrSelf x z
 through x y z a b = (a.0 ++ b.0, b.1 ∙ ap (λ w. w ++ b.0) a.1 ∙ append_assoc x a.0 b.0)
 
 -- the label of an answer in a tree goes on from its root's

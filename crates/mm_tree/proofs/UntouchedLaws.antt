@@ -6,10 +6,10 @@ use Rattle.mm_tree.specs.declared.forest.place.Place.{Place}
 use Rattle.mm_tree.specs.declared.forest.place.Place.TheVariants.{Before, After, First, Last}
 use Rattle.mm_tree.specs.Trees.{Trees, none, node, Tree, one, preorder}
 use Rattle.mm_tree.specs.Numbering.{Labelled, number}
-use Rattle.mm_tree.specs.Forests.{is_well_formed, and_then}
+use Rattle.mm_tree.specs.Forests.{is_well_formed, and_then, numbered_behind}
 use Rattle.mm_tree.specs.Edits.{has_label, has, found, Change, taken_out, put_instead, put, edit, inserted_label}
 use Rattle.mm_tree.specs.Ways.{leads_to, found_down, edit_down}
-use Rattle.mm_tree.specs.Untouched.{OneRun, InsertLeaves, DeleteLeaves, ReplaceLeaves}
+use Rattle.mm_tree.specs.Untouched.{OneRun, LoadLeaves, InsertLeaves, DeleteLeaves, ReplaceLeaves}
 use Rattle.mm_tree.proofs.WayLaws.{edit_is, found_is, is_found, labels_of}
 
 -- the change at one node differs by one run
@@ -94,6 +94,9 @@ one_run f taken given l x n forest w h =
 there : (x : List ℤ) (forest : Trees Labelled) (r : Option (Tree Labelled)) → found x forest ≡ r → has x forest ≡ true → (n : Tree Labelled) × (found x forest ≡ Some n)
 there x forest None e h = absurd (true≢false (is_found x forest h e))
 there x forest (Some n) e h = (n, e)
+
+pub load_leaves : LoadLeaves
+load_leaves t forest = preorder-and_then forest (numbered_behind forest t)
 
 pub insert_leaves : InsertLeaves
 insert_leaves p x t forest w h =

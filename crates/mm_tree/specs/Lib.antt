@@ -8,6 +8,7 @@ pub mod Order
 pub mod Edits
 pub mod Ways
 pub mod Untouched
+pub mod Staying
 pub mod Hits
 pub mod Search
 pub mod Smallest

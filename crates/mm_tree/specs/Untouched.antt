@@ -4,7 +4,7 @@ use Rattle.mm_tree.specs.declared.plain.Kind.{Kind}
 use Rattle.mm_tree.specs.declared.forest.place.Place.{Place}
 use Rattle.mm_tree.specs.Trees.{Trees, Tree, one, preorder}
 use Rattle.mm_tree.specs.Numbering.{Labelled, number}
-use Rattle.mm_tree.specs.Forests.{is_well_formed}
+use Rattle.mm_tree.specs.Forests.{is_well_formed, load, numbered_behind}
 use Rattle.mm_tree.specs.Edits.{has, found, insert, delete, replace, inserted_label}
 
 -- `old` and `new` are the same nodes but for one run, which was `taken` and is `given`
@@ -13,6 +13,10 @@ pub record OneRun (old new taken given : List Labelled) : Type 0 where
   pub back : List Labelled
   pub old_is : old ≡ front ++ (taken ++ back)
   pub new_is : new ≡ front ++ (given ++ back)
+
+-- a load: all nodes stay, and those of the new tree stand behind them
+abbrev pub LoadLeaves : Type 0
+LoadLeaves = (t : Tree Kind) (forest : Trees Labelled) → preorder (load t forest) ≡ preorder forest ++ preorder (numbered_behind forest t)
 
 -- an insertion: all nodes stay, and those of the new tree stand in one run
 abbrev pub InsertLeaves : Type 0

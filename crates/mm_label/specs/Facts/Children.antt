@@ -92,7 +92,7 @@ le_joined : (y s t : Label) → Le s t → Le (y ++ s) (y ++ t)
 le_joined [] s t l = l
 le_joined (c ∷ y) s t l = inr (refl, le_joined y s t l)
 
-front_joined : (y s t : Label) → Front (y ++ s) (y ++ t) → Front s t
+pub front_joined : (y s t : Label) → Front (y ++ s) (y ++ t) → Front s t
 front_joined [] s t f = f
 front_joined (c ∷ y) s t f = front_joined y s t f.1
 

@@ -1,31 +1,7 @@
 -- Lists of labels.
-use Rattle.std.proofs.Common.{inl, inr, ◌≡◌, ◌⊎◌, Bool, true, false, cond, ℕ, zero, suc, ◌<◌, List, [], ◌∷◌, ◌++◌, refl, sym, subst, ◌∙◌, length, drop, arith}
-use Rattle.std.specs.Prelude.{slice_index_or}
-use Rattle.std.specs.List.{Contains}
+use Rattle.std.proofs.Common.{inl, inr, ◌≡◌, ◌⊎◌, Bool, true, false, cond, ℕ, zero, suc, List, [], ◌∷◌, ◌++◌, refl, sym, subst, ◌∙◌, drop}
 use Rattle.mm_label.specs.Fronts.{Label, Front, Le, Lt, Apart, Within, Ascends, Meets}
 use Rattle.mm_label.specs.Facts.Fronts.{front_refl, front_trans, front_le, le_antisym}
-
-pub contains_of : (x : Label) (ms : List Label) → Within x ms → Contains ms x
-contains_of x [] w = absurd w
-contains_of x (m ∷ ms) w = elim w [
-  | inl e ↦ (0, omega arith, sym e)
-  | inr k ↦ let t = contains_of x ms k in (suc t.0, omega (arith, t.1), t.2)
-]
-
-pub within_of : (x : Label) (ms : List Label) → Contains ms x → Within x ms
-within_of x ms h = at ms h.0 h.1 h.2
-  where
-    at : (ms : List Label) (k : ℕ) → k < length ms → slice_index_or ms k x ≡ x → Within x ms
-    at [] k h e = absurd (omega arith)
-    at (m ∷ ms) zero h e = inl (sym e)
-    at (m ∷ ms) (suc k) h e = inr (at ms k (omega arith) e)
-
-pub within_joined : (x : Label) (front back : List Label) → Within x (front ++ back) → Within x front ⊎ Within x back
-within_joined x [] back h = inr h
-within_joined x (a ∷ front) back h = elim h [
-  | inl k ↦ inl (inl k)
-  | inr k ↦ elim (within_joined x front back k) [ inl q ↦ inl (inr q) | inr q ↦ inr q ]
-]
 
 pub within_own : (b : Bool) (x m : Label) → Within m (cond b (x ∷ []) []) → m ≡ x
 within_own true x m h = elim h [ inl k ↦ k | inr k ↦ absurd k ]
@@ -40,13 +16,6 @@ own_of true x m e h = inl h
 own_of false x m e h = absurd cc
 
 -- ---- in document order
-
-pub ascends_joined : (xs ys : List Label) → Ascends xs → Ascends ys → ((u r : Label) → Within u xs → Within r ys → Lt u r) → Ascends (xs ++ ys)
-ascends_joined [] ys g h f = h
-ascends_joined (a ∷ xs) ys g h f = (
-  λ m w. elim (within_joined m xs ys w) [ inl k ↦ g.0 m k | inr k ↦ f a m (inl refl) k ],
-  ascends_joined xs ys g.1 h (λ u r p q. f u r (inr p) q),
-)
 
 pub ascends_own : (b : Bool) (x : Label) → Ascends (cond b (x ∷ []) [])
 ascends_own true x = (λ m w. absurd w, tt)

@@ -1,5 +1,5 @@
 -- Order and fronts as recursions are those of labels.
-use Rattle.std.proofs.Common.{inl, inr, ◌≡◌, ◌⊎◌, Bool, true, false, [], ◌∷◌, refl, ap, sym, subst, ◌∙◌, Ordering, Less, Equal, Greater, arith}
+use Rattle.std.proofs.Common.{inl, inr, ◌≡◌, ◌⊎◌, Bool, true, false, [], ◌∷◌, ◌++◌, refl, ap, sym, subst, ◌∙◌, Ordering, Less, Equal, Greater, arith}
 use Rattle.std.specs.Prelude.{ℤ, ◌<ℤ◌, IsTrue, ◌↔◌}
 use Rattle.std.specs.Ordering.{int_cmp, int_eq, is_eq, is_lt, ordering_then}
 use Rattle.std.specs.Cmp.{int_cmp_total}
@@ -61,6 +61,10 @@ pub ancestor_of : (a b : Label) → Front a b → IsAncestorOrSelf a b
 ancestor_of [] b f = (b, refl)
 ancestor_of (x ∷ a) [] f = absurd f
 ancestor_of (x ∷ a) (y ∷ b) f = let t = ancestor_of a b f.1 in let e = t.1 in let p = f.0 in (t.0, cc)
+
+-- a front and what comes after it
+pub splits : (a b : Label) → Front a b ↔ ((rest : Label) × (b ≡ a ++ rest))
+splits a b = (ancestor_of a b, front_of a b)
 
 pub past_apart : (a b : Label) → IsPast a b → Apart a b
 past_apart a b h = ((before_lt a b h.0).0, λ f. h.1 (ancestor_of a b f))

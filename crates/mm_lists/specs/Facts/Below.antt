@@ -9,7 +9,8 @@ use Rattle.mm_tree.specs.Search.{Worded, has, holds, is_full, list_of, lists_of}
 use Rattle.mm_lists.specs.Formed.{RootsAfter, WellFormed}
 use Rattle.mm_label.specs.Facts.Fronts.{front_refl, front_trans, front_antisym, apart_below}
 use Rattle.mm_label.specs.Facts.Children.{under}
-use Rattle.mm_label.specs.Facts.Lists.{within_joined, meets_right, meets_cases, meets_left}
+use Rattle.mm_label.specs.Facts.Lists.{meets_right, meets_cases, meets_left}
+use Rattle.mm_label.specs.Facts.Members.{within_joined}
 
 -- ---- the nodes of the trees
 

@@ -9,7 +9,9 @@ use Rattle.mm_tree.specs.Search.{Worded, has, list_of, lists_of}
 use Rattle.mm_lists.specs.Formed.{WellFormed}
 use Rattle.mm_label.specs.Facts.Fronts.{below_apart}
 use Rattle.mm_lists.specs.Facts.Below.{NodeOf, node_below, node_after}
-use Rattle.mm_label.specs.Facts.Lists.{within_joined, within_own, ascends_joined, ascends_own, apart_lt, lt_below}
+use Rattle.mm_label.specs.Facts.Lists.{within_own, ascends_own, apart_lt, lt_below}
+use Rattle.mm_label.specs.Facts.Ordered.{ordered_joined}
+use Rattle.mm_label.specs.Facts.Members.{within_joined}
 
 pub listed_node : (w : Word) (m : Label) (forest : Trees Worded) → Within m (list_of w forest) → NodeOf m forest
 listed_node w m none h = absurd h
@@ -36,9 +38,9 @@ listed_whole w m forest g h = node_whole [] m forest g (listed_node w m forest h
 pub list_ascends : (y : Label) (w : Word) (forest : Trees Worded) → WellFormed y forest → Ascends (list_of w forest)
 list_ascends y w none g = tt
 list_ascends y w (node e inner rest) g =
-    ascends_joined (cond (has e w) (e.label ∷ []) []) (list_of w inner ++ list_of w rest)
+    ordered_joined Lt (cond (has e w) (e.label ∷ []) []) (list_of w inner ++ list_of w rest)
     (ascends_own (has e w) e.label)
-    (ascends_joined (list_of w inner) (list_of w rest) (list_ascends e.label w inner g.1) (list_ascends y w rest g.3)
+    (ordered_joined Lt (list_of w inner) (list_of w rest) (list_ascends e.label w inner g.1) (list_ascends y w rest g.3)
     (λ u r p q. apart_lt u r (below_apart e.label u r (node_after e.label y r rest g.3 g.2 (listed_node w r rest q)) (node_below e.label u inner g.1 (listed_node w u inner p)).0)))
     (λ u r p q. subst (λ (t : Label). Lt t r) (sym (within_own (has e w) e.label u p)) (elim (within_joined r (list_of w inner) (list_of w rest) q) [
       | inl k ↦ let t = node_below e.label r inner g.1 (listed_node w r inner k) in lt_below e.label r t.0 t.1

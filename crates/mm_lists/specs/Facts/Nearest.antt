@@ -3,7 +3,7 @@ use Rattle.std.proofs.Common.{List, Option, Some, None}
 use Rattle.mm_label.specs.Fronts.{Label, Le, Lt, Within}
 use Rattle.mm_lists.specs.Lists.{IsLeft, IsRight, IsNext}
 use Rattle.mm_label.specs.Facts.Order.{before_lt, le_before, le_of, lt_before}
-use Rattle.mm_label.specs.Facts.Lists.{contains_of, within_of}
+use Rattle.mm_label.specs.Facts.Members.{contains_of, within_of}
 
 -- the last at or before v
 abbrev pub LeftMatch : List Label → Label → Option Label → Type 0

@@ -1,4 +1,4 @@
-use Rattle.std.proofs.Common.{◌∙◌, ap, sym, nat_eq, List, ℕ}
+use Rattle.std.proofs.Common.{◌∙◌, ap, sym, nat_eq}
 use Rattle.std.specs.List.{list_any}
 use Rattle.mm_match.specs.Marks.{under}
 use Rattle.mm_match.proofs.Siblings.{pushed, contained}
