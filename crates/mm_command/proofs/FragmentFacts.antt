@@ -9,7 +9,7 @@ use Rattle.mm_tree.specs.declared.fragment.Fragment.TheFolds.{fold_out-Fragment}
 use Rattle.mm_tree.specs.Trees.{Trees, Tree, nodes, preorder}
 use Rattle.mm_tree.specs.Fragments.{Named, fragment_step, fragment_tree, fragment_trees}
 use Rattle.mm_command.specs.Replies.{told, shown_line, fragment_head, fragment_text}
-use Rattle.mm_command.specs.Showing.{shown_of}
+use Rattle.mm_command.specs.Inside.Showing.{shown_of}
 
 pub tree_is : (f : Fragment) → fragment_tree f ≡ (shown_of f, fragment_trees (out-Fragment f).children)
 tree_is f = fold_out-Fragment (Tree Named) fragment_step f

@@ -4,7 +4,7 @@ ghost use Rattle.std.specs.List.{flat_map};
 ghost use Rattle.mm_tree.specs.Trees.{nodes, preorder};
 ghost use Rattle.mm_tree.specs.Fragments.{fragment_tree, fragment_trees};
 ghost use Rattle.mm_command.specs.Replies.{told, word_after_space, shown_line, fragment_head, fragment_text, fragments_text};
-ghost use Rattle.mm_command.specs.Showing.{shown_of};
+ghost use Rattle.mm_command.specs.Inside.Showing.{shown_of};
 
 use mm_label::Label;
 use mm_tree::Fragment;

@@ -18,6 +18,3 @@ mod top;
 pub use command::{Command, Payload};
 pub use status::Status;
 pub use top::run;
-
-#[cfg(test)]
-mod tests;

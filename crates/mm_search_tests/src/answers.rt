@@ -94,91 +94,42 @@ fn assert_exclusive(
     Ok(())
 }
 
-#[test]
-fn one_bibliography_is_searched(rt: HostRuntime) -> Result<(), Fail> {
-    let forest = copies(rt.alloc(), BIBLIOGRAPHY, 1)?;
-    for (text, smallest, exclusive) in [
-        ("search liu", "1.1", "1.1"),
-        ("search", "1.1.1.1 1.3.1.1", "1.1.1.1 1.3.1.1"),
-        ("liu chen", "1", "1"),
-        ("absent liu", "", ""),
-        ("Search SEARCH liu", "1.1", "1.1"),
-        ("title author", "1.1 1.3", "1.1 1.3"),
-        ("bib", "1", "1"),
-    ] {
-        assert_smallest(&rt, rt.alloc(), &forest, text, smallest)?;
-        assert_exclusive(&rt, rt.alloc(), &forest, text, exclusive)?;
-    }
-    Ok(())
-}
-
-#[test]
-fn two_bibliographies_are_searched(rt: HostRuntime) -> Result<(), Fail> {
-    let forest = copies(rt.alloc(), BIBLIOGRAPHY, 2)?;
-    for (text, labels) in [
-        ("search liu", "1.1 3.1"),
-        ("search", "1.1.1.1 1.3.1.1 3.1.1.1 3.3.1.1"),
-        ("liu chen", "1 3"),
-        ("chen keyword book", "1.3 3.3"),
-    ] {
-        assert_smallest(&rt, rt.alloc(), &forest, text, labels)?;
-        assert_exclusive(&rt, rt.alloc(), &forest, text, labels)?;
-    }
-    Ok(())
-}
-
-#[test]
-fn words_outside_full_children(rt: HostRuntime) -> Result<(), Fail> {
-    let forest = copies(rt.alloc(), NOTES, 1)?;
-    for (text, smallest, exclusive) in [
-        ("xml liu", "1.1.1", "1 1.1.1"),
-        ("xml", "1.1.1 1.3.1", "1.1.1 1.3.1"),
-        ("note liu", "1", "1"),
-        ("absent liu", "", ""),
-    ] {
-        assert_smallest(&rt, rt.alloc(), &forest, text, smallest)?;
-        assert_exclusive(&rt, rt.alloc(), &forest, text, exclusive)?;
-    }
-    Ok(())
-}
-
-#[test]
-fn an_empty_forest_has_no_answers(rt: HostRuntime) -> Result<(), Fail> {
-    let forest = Forest::new(rt.alloc());
-    assert_smallest(&rt, rt.alloc(), &forest, "liu", "")?;
-    assert_exclusive(&rt, rt.alloc(), &forest, "liu", "")
-}
-
-/// Both searches over so many copies of the document.
-fn assert_agreed(
-    rt: &impl Abort,
-    alloc: Global,
-    document: &str,
-    times: u8,
-    texts: &[&str],
-) -> Result<(), Fail> {
-    let forest = copies(alloc, document, times)?;
-    for text in texts {
-        assert!(rt; smallest_agreed(alloc, &forest, text)?.1);
-        assert!(rt; exclusive_agreed(alloc, &forest, text)?.1);
-    }
-    Ok(())
-}
-
-#[test]
-fn the_plain_walks_find_the_same(rt: HostRuntime) -> Result<(), Fail> {
-    let books = [
-        "search",
-        "liu chen",
+/// So many copies of a document, a query, the labels of its smallest answers and those of its exclusive ones.
+const TABLE: [(&str, u8, &str, &str, &str); 8] = [
+    (BIBLIOGRAPHY, 0, "liu", "", ""),
+    (BIBLIOGRAPHY, 1, "liu chen", "1", "1"),
+    (BIBLIOGRAPHY, 1, "absent liu", "", ""),
+    (
+        BIBLIOGRAPHY,
+        2,
+        "title author",
+        "1.1 1.3 3.1 3.3",
+        "1.1 1.3 3.1 3.3",
+    ),
+    (
+        BIBLIOGRAPHY,
+        3,
+        "chen keyword",
+        "1.3 3.3 5.3",
+        "1.3 3.3 5.3",
+    ),
+    (NOTES, 1, "xml liu", "1.1.1", "1 1.1.1"),
+    (
+        NOTES,
+        2,
         "xml",
-        "title keyword",
-        "bib",
-        "absent",
-    ];
-    let notes = ["xml liu", "book liu", "bib xml", "absent"];
-    for times in 0..4 {
-        assert_agreed(&rt, rt.alloc(), BIBLIOGRAPHY, times, &books)?;
-        assert_agreed(&rt, rt.alloc(), NOTES, times, &notes)?;
+        "1.1.1 1.3.1 3.1.1 3.3.1",
+        "1.1.1 1.3.1 3.1.1 3.3.1",
+    ),
+    (NOTES, 3, "book liu", "1.1 3.1 5.1", "1.1 3.1 5.1"),
+];
+
+#[test]
+fn both_searches_find_what_the_plain_walks_find(rt: HostRuntime) -> Result<(), Fail> {
+    for (document, times, text, smallest, exclusive) in TABLE {
+        let forest = copies(rt.alloc(), document, times)?;
+        assert_smallest(&rt, rt.alloc(), &forest, text, smallest)?;
+        assert_exclusive(&rt, rt.alloc(), &forest, text, exclusive)?;
     }
     Ok(())
 }

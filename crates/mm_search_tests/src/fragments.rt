@@ -14,7 +14,6 @@ use mm_words::calls::query;
 use mm_words::{Query, Word};
 use std::alloc::{AllocError, Global};
 use std::marker::Brand;
-use std::process::Abort;
 use std::sync::ledger::{Blank, Ledger};
 use std::test::Fail;
 
@@ -98,61 +97,39 @@ fn plainly(alloc: Global, forest: &Forest, root: &str, text: &str) -> Result<Vec
     Ok(lines(alloc, shown)?)
 }
 
-fn assert_shown(
-    rt: &impl Abort,
-    alloc: Global,
-    root: &str,
-    text: &str,
-    wanted: &[u8],
-) -> Result<(), Fail> {
-    let forest = loaded(alloc)?;
-    let shown = found(alloc, &forest, root, text)?;
-    assert!(rt; shown.as_slice() == wanted);
-    let shown = plainly(alloc, &forest, root, text)?;
-    assert!(rt; shown.as_slice() == wanted);
-    Ok(())
-}
+/// A root, a query, and the lines of its fragment.
+const TABLE: [(&str, &str, &str); 5] = [
+    (
+        "1",
+        "bears gold pos",
+        "1 team\n1.1 name\n1.1.1 #text bears\n1.3 players\n1.3.1 player\n1.3.1.1 name\n1.3.1.1.1 #text gold\n1.3.1.3 pos pos\n",
+    ),
+    (
+        "3",
+        "bears pos",
+        "3 team\n3.1 name\n3.1.1 #text bears\n3.3 player\n3.3.1 pos pos\n3.5 player\n3.5.1 pos pos\n",
+    ),
+    (
+        "5",
+        "xml liu",
+        "5 bib\n5.3 note\n5.3.1 #text xml\n5.5 author\n5.5.1 #text liu\n",
+    ),
+    ("5.1.1", "liu xml", "5.1.1 #text liu xml\n"),
+    (
+        "1.3.3",
+        "miller guard",
+        "1.3.3 player\n1.3.3.1 name\n1.3.3.1.1 #text miller\n1.3.3.3 pos\n1.3.3.3.1 #text guard\n",
+    ),
+];
 
 #[test]
-fn the_second_player_is_pruned(rt: HostRuntime) -> Result<(), Fail> {
-    let wanted =
-        b"1 team\n1.1 name\n1.1.1 #text bears\n1.3 players\n1.3.1 player\n1.3.1.1 name\n1.3.1.1.1 #text gold\n1.3.1.3 pos pos\n";
-    assert_shown(&rt, rt.alloc(), "1", "bears gold pos", wanted.as_slice())
-}
-
-#[test]
-fn equal_siblings_both_stay(rt: HostRuntime) -> Result<(), Fail> {
-    let wanted =
-        b"3 team\n3.1 name\n3.1.1 #text bears\n3.3 player\n3.3.1 pos pos\n3.5 player\n3.5.1 pos pos\n";
-    assert_shown(&rt, rt.alloc(), "3", "bears pos", wanted.as_slice())
-}
-
-#[test]
-fn a_full_child_is_left_out(rt: HostRuntime) -> Result<(), Fail> {
-    let root = b"5 bib\n5.3 note\n5.3.1 #text xml\n5.5 author\n5.5.1 #text liu\n";
-    assert_shown(&rt, rt.alloc(), "5", "xml liu", root.as_slice())?;
-    let child = b"5.1.1 #text xml liu\n";
-    assert_shown(&rt, rt.alloc(), "5.1.1", "xml liu", child.as_slice())
-}
-
-#[test]
-fn words_stand_in_the_order_of_the_query(rt: HostRuntime) -> Result<(), Fail> {
-    let wanted = b"5.1.1 #text liu xml\n";
-    assert_shown(&rt, rt.alloc(), "5.1.1", "liu xml", wanted.as_slice())
-}
-
-#[test]
-fn the_plain_walk_shows_the_same(rt: HostRuntime) -> Result<(), Fail> {
+fn fragments_are_those_of_the_plain_walk(rt: HostRuntime) -> Result<(), Fail> {
     let forest = loaded(rt.alloc())?;
-    for (root, text) in [
-        ("1.3.3", "miller guard"),
-        ("1.3", "player pos name"),
-        ("5", "note liu"),
-        ("5", "bib"),
-    ] {
+    for (root, text, due) in TABLE {
         let shown = found(rt.alloc(), &forest, root, text)?;
+        assert!(rt; shown.as_slice() == due.as_bytes());
         let plain = plainly(rt.alloc(), &forest, root, text)?;
-        assert!(rt; shown.as_slice() == plain.as_slice());
+        assert!(rt; plain.as_slice() == due.as_bytes());
     }
     Ok(())
 }

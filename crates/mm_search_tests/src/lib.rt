@@ -1,5 +1,5 @@
-//! The worked examples of searches: documents are read, and their keyword lists, the searches over them and
-//! the plain walks of mm_tree answer.
+//! Searches and their parts, called beside a run: documents are read, and their keyword lists, the searches
+//! over them and the plain walks of mm_tree answer.
 #![tactic(auto)]
 
 #[cfg(test)]

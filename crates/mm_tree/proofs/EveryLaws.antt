@@ -8,7 +8,7 @@ use Rattle.mm_tree.specs.Trees.{Trees, none, node, Tree, one, has_some, every}
 use Rattle.mm_tree.specs.Numbering.{Labelled}
 use Rattle.mm_tree.specs.Forests.{and_then}
 use Rattle.mm_tree.specs.Edits.{has_label, Change, taken_out, put_instead, put, is_inside}
-use Rattle.mm_tree.specs.Ways.{leads_to, found_down, edit_down}
+use Rattle.mm_tree.specs.Inside.Ways.{leads_to, found_down, edit_down}
 use Rattle.mm_tree.proofs.LabelledLaws.{every_behind}
 
 -- fewer children never break the test

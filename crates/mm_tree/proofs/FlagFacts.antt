@@ -1,7 +1,7 @@
 -- Lists of flags, one for each word of a query.
 use Rattle.std.proofs.Common.{◌≡◌, ℕ, zero, suc, ◌<◌, Bool, true, false, ◌||◌, List, [], ◌∷◌, length, get_or, take, map, replicate, ap, ap₂, refl, ◌∙◌, arith, slice_set}
 use Rattle.std.proofs.Math.Bool.{or-true}
-use Rattle.mm_tree.specs.Searching.{either}
+use Rattle.mm_tree.specs.Inside.Searching.{either}
 
 pub length-either : (flags others : List Bool) → length (either flags others) ≡ length flags
 length-either [] others = refl

@@ -11,7 +11,7 @@ use Rattle.mm_tree.specs.Trees.{Trees, none, node, Tree, one}
 use Rattle.mm_tree.specs.Numbering.{Labelled}
 use Rattle.mm_tree.specs.Forests.{segment_below, is_before, rises, is_child_label, are_labelled, and_then, last_segment}
 use Rattle.mm_tree.specs.Edits.{has_label, Change, taken_out, put_instead, put, Gap, first_label, last_label, gap_at, left_segment, right_segment}
-use Rattle.mm_tree.specs.Ways.{leads_to, edit_down, gap_down}
+use Rattle.mm_tree.specs.Inside.Ways.{leads_to, edit_down, gap_down}
 use Rattle.mm_tree.proofs.LabelledLaws.{child_ok, whole_of, at_end}
 use Rattle.mm_tree.specs.Facts.Formed.{Parts, parts}
 use Rattle.mm_tree.proofs.OrderLaws.{rises_more}

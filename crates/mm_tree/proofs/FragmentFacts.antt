@@ -11,10 +11,10 @@ use Rattle.mm_tree.specs.declared.node.Node.TheViews.{out-Node}
 use Rattle.mm_tree.specs.Trees.{Trees, none, node, Tree, siblings}
 use Rattle.mm_tree.specs.Numbering.{Labelled, forest_of}
 use Rattle.mm_tree.specs.Hits.{name_of}
-use Rattle.mm_tree.specs.Search.{is_full, own, worded}
-use Rattle.mm_tree.specs.Searching.{held_by, worded_node}
-use Rattle.mm_tree.specs.Fragments.{Named, named, named_as, bare, bares, row_of, rows_of, some, less, contributes, contributors, shown, fragment, fragment_step, fragment_tree, fragment_trees}
-use Rattle.mm_tree.specs.Fragmenting.{named_node, named_tree, stands_out}
+use Rattle.mm_tree.specs.Search.{is_full, own, worded, held_by}
+use Rattle.mm_tree.specs.Inside.Searching.{worded_node}
+use Rattle.mm_tree.specs.Fragments.{Named, named, named_as, bare, bares, row_of, rows_of, some, less, contributes, contributors, shown, fragment, fragment_step, fragment_tree, fragment_trees, named_tree}
+use Rattle.mm_tree.specs.Inside.Fragmenting.{named_node, stands_out}
 use Rattle.mm_tree.proofs.PlaceFacts.{node_of_out}
 use Rattle.mm_tree.proofs.SearchFacts.{all_held}
 

@@ -10,7 +10,7 @@ use Rattle.mm_tree.specs.declared.forest.place.Place.TheVariants.{Before, After,
 use Rattle.mm_tree.specs.Trees.{node, Tree}
 use Rattle.mm_tree.specs.Numbering.{Labelled, node_of, forest_of}
 use Rattle.mm_tree.specs.Edits.{Gap, first_label, last_label, gap_at}
-use Rattle.mm_tree.specs.Ways.{leads_to, gap_down, node_label, label_before, gap_here}
+use Rattle.mm_tree.specs.Inside.Ways.{leads_to, gap_down, node_label, label_before, gap_here}
 use Rattle.mm_tree.proofs.PlaceFacts.{labelled, node_of_out, off_way, is_at, one_more, get_next, get_none}
 
 -- the label before the i-th of the siblings, behind one on the left

@@ -16,7 +16,7 @@ use Rattle.mm_tree.specs.Trees.{Trees, node, Tree}
 use Rattle.mm_tree.specs.Numbering.{Labelled, node_of, forest_of}
 use Rattle.mm_tree.specs.Forests.{segment_below, is_before, are_labelled}
 use Rattle.mm_tree.specs.Edits.{has}
-use Rattle.mm_tree.specs.Ways.{AreSiblings, leads_to, found_down, is_passed}
+use Rattle.mm_tree.specs.Inside.Ways.{AreSiblings, leads_to, found_down, is_passed}
 use Rattle.mm_tree.specs.Facts.Formed.{front_splits, parts}
 use Rattle.mm_tree.proofs.OrderLaws.{Under, rises_more, before_is, side_after}
 use Rattle.mm_tree.proofs.PlaceFacts.{labelled, node_of_out, is_at, get_next, get_none}

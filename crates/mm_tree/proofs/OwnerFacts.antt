@@ -7,10 +7,10 @@ use Rattle.mm_tree.specs.declared.node.Node.{Node}
 use Rattle.mm_tree.specs.declared.node.Node.TheViews.{out-Node}
 use Rattle.mm_tree.specs.Trees.{Trees, none, node, one}
 use Rattle.mm_tree.specs.Numbering.{node_of, forest_of}
-use Rattle.mm_tree.specs.Search.{Worded, own, worded, has, holds, is_full}
+use Rattle.mm_tree.specs.Search.{Worded, own, worded, has, holds, is_full, held_by}
 use Rattle.mm_tree.specs.Elca.{outside, owns, elca}
 use Rattle.std.specs.Str.{bytes_eq}
-use Rattle.mm_tree.specs.Searching.{either, held, held_by, held_outside, own_elca, worded_node}
+use Rattle.mm_tree.specs.Inside.Searching.{either, held, held_outside, own_elca, worded_node}
 use Rattle.mm_tree.proofs.FlagFacts.{either_tests, either_twice, either_never, length-either}
 use Rattle.mm_tree.proofs.SearchFacts.{seen, inside, all_held, held_one, seen_next}
 

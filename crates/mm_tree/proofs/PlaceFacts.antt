@@ -10,7 +10,7 @@ use Rattle.mm_tree.specs.Trees.{Trees, node, Tree, one}
 use Rattle.mm_tree.specs.Numbering.{Labelled, node_of, node_step, forest_of}
 use Rattle.mm_tree.specs.Forests.{and_then}
 use Rattle.mm_tree.specs.Edits.{has_label, Change, taken_out, put_instead, put}
-use Rattle.mm_tree.specs.Ways.{leads_to, found_down, edit_down, at_index}
+use Rattle.mm_tree.specs.Inside.Ways.{leads_to, found_down, edit_down, at_index}
 
 abbrev pub labelled : Node → Labelled
 labelled n = record { label = (out-Node n).label; kind = (out-Node n).kind }

@@ -7,8 +7,8 @@ use Rattle.mm_tree.specs.declared.node.Node.{Node}
 use Rattle.mm_tree.specs.declared.node.Node.TheViews.{out-Node}
 use Rattle.mm_tree.specs.Trees.{Trees, none, node, Tree, one}
 use Rattle.mm_tree.specs.Numbering.{Labelled, node_of, forest_of}
-use Rattle.mm_tree.specs.Search.{Worded, own, worded, has, holds, is_full, some_full, slca}
-use Rattle.mm_tree.specs.Searching.{either, held, held_by, own_answer, worded_node}
+use Rattle.mm_tree.specs.Search.{Worded, own, worded, has, holds, is_full, some_full, slca, held_by}
+use Rattle.mm_tree.specs.Inside.Searching.{either, held, own_answer, worded_node}
 use Rattle.mm_tree.proofs.FlagFacts.{either_tests, either_twice, either_never, or_false, or_assoc}
 use Rattle.std.proofs.lemmas.List.{drop_all}
 use Rattle.std.proofs.lemmas.Bool.{or_parts, and_from, and_parts}

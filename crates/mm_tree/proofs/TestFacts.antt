@@ -9,7 +9,7 @@ use Rattle.mm_tree.specs.declared.plain.Kind.TheVariants.{Element, Words}
 use Rattle.mm_tree.specs.declared.plain.Plain.{Plain}
 use Rattle.mm_tree.specs.Trees.{Trees, none, Tree, one, every, has_some, tree_of, trees_of}
 use Rattle.mm_tree.specs.Validity.{is_valid_kind, is_valid_node, is_valid_tree, pieces}
-use Rattle.mm_tree.specs.Examples.{Take}
+use Rattle.mm_tree.specs.Examples.Bibliography.{Take}
 
 a_valid : is_valid_kind (Element (97 ∷ []) []) ≡ true
 unfolding is_valid_kind is_utf8 chars encode_utf8

@@ -8,7 +8,7 @@ use Rattle.mm_tree.specs.Trees.{Trees, none, node, Tree, one, preorder}
 use Rattle.mm_tree.specs.Numbering.{Labelled, number}
 use Rattle.mm_tree.specs.Forests.{is_well_formed, and_then, numbered_behind}
 use Rattle.mm_tree.specs.Edits.{has_label, has, found, Change, taken_out, put_instead, put, edit, inserted_label}
-use Rattle.mm_tree.specs.Ways.{leads_to, found_down, edit_down}
+use Rattle.mm_tree.specs.Inside.Ways.{leads_to, found_down, edit_down}
 use Rattle.mm_tree.specs.Untouched.{OneRun, LoadLeaves, InsertLeaves, DeleteLeaves, ReplaceLeaves}
 use Rattle.mm_tree.proofs.WayLaws.{edit_is, found_is, is_found, labels_of}
 

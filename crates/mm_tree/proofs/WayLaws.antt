@@ -16,7 +16,7 @@ use Rattle.mm_tree.specs.Numbering.{Labelled}
 use Rattle.mm_tree.specs.Forests.{segment_below, is_before, are_labelled, is_well_formed}
 use Rattle.mm_tree.specs.declared.forest.place.Place.{Place}
 use Rattle.mm_tree.specs.Edits.{has_label, has, found, Change, edit, Gap, gap_at, gap}
-use Rattle.mm_tree.specs.Ways.{leads_to, found_down, edit_down, gap_down}
+use Rattle.mm_tree.specs.Inside.Ways.{leads_to, found_down, edit_down, gap_down}
 use Rattle.mm_tree.proofs.LabelledLaws.{front_is}
 use Rattle.mm_tree.specs.Facts.Formed.{front_splits, parts}
 use Rattle.mm_tree.proofs.OrderLaws.{Under, rises_more}

@@ -4,14 +4,14 @@
 -- project's own.
 use Rattle.std.specs.Prelude.{ℕ, ℤ, Bool, true, not, ◌&&◌, ◌||◌, List, [], ◌∷◌, map, filter, if◌then◌else◌}
 use Rattle.std.specs.List.{list_any}
+use Rattle.mm_tree.specs.declared.node.Node.{Node}
 use Rattle.mm_tree.specs.declared.fragment.Fragment.{Fragment}
 use Rattle.mm_tree.specs.declared.fragment.Fragment.TheFolds.{fold-Fragment}
 use Rattle.mm_tree.specs.declared.fragment.Fragment.TheOpen.{Fragment-F}
 use Rattle.mm_tree.specs.Trees.{Trees, none, node, each, Tree, siblings}
-use Rattle.mm_tree.specs.Numbering.{Labelled}
+use Rattle.mm_tree.specs.Numbering.{Labelled, node_of}
 use Rattle.mm_tree.specs.Hits.{name_of}
-use Rattle.mm_tree.specs.Search.{Worded, has, is_full, own}
-use Rattle.mm_tree.specs.Searching.{held_by}
+use Rattle.mm_tree.specs.Search.{Worded, has, is_full, own, held_by}
 
 -- a node with its name: its own words, or in a fragment those of the query among them
 pub record Named : Type 0 where
@@ -24,6 +24,10 @@ named_as e = record { label = e.label; name = name_of e.kind; words = own e.kind
 
 abbrev pub named : Trees Labelled → Trees Named
 named = each named_as
+
+-- a node of the program with all below it
+abbrev pub named_tree : Node → Tree Named
+named_tree n = (named_as (node_of n).0, named (node_of n).1)
 
 -- the same without names
 abbrev pub bare : Named → Worded

@@ -1,6 +1,6 @@
 -- Searches by words: which nodes hold every word of a query, and the smallest lowest common ancestors.
 -- SLCA: Xu and Papakonstantinou, "Efficient Keyword Search for Smallest LCAs in XML Databases", SIGMOD 2005.
-use Rattle.std.specs.Prelude.{ℕ, ℤ, pos, Bool, true, false, ◌&&◌, ◌||◌, List, [], ◌∷◌, ◌++◌, ◌≡◌, flat_map, if◌then◌else◌, codes, refl}
+use Rattle.std.specs.Prelude.{ℕ, ℤ, pos, Bool, true, false, ◌&&◌, ◌||◌, List, [], ◌∷◌, ◌++◌, ◌≡◌, flat_map, if◌then◌else◌, codes, refl, map}
 use Rattle.std.specs.List.{list_any}
 use Rattle.std.specs.Str.{bytes_eq}
 use Rattle.mm_words.specs.Words.{text_words, name_words}
@@ -47,6 +47,10 @@ is_full (w ∷ query) e inner = (has e w || holds w inner) && is_full query e in
 abbrev pub some_full : List (List ℕ) → Trees Worded → Bool
 some_full query none = false
 some_full query (node e inner rest) = is_full query e inner || some_full query rest
+
+-- for each word of the query, whether it is one of the node's own, or of a node's below it
+abbrev pub held_by : List (List ℕ) → Worded → Trees Worded → List Bool
+held_by query e inner = map (λ w. has e w || holds w inner) query
 
 -- the full nodes none of whose children is full, in document order
 abbrev pub slca : List (List ℕ) → Trees Worded → List (List ℤ)

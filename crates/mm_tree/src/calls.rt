@@ -4,11 +4,11 @@ ghost use Rattle.std.specs.Prelude.{◌≡◌, ◌&&◌, not, Bool, ℕ, List, I
 ghost use Rattle.std.specs.List.{list_all, list_any};
 ghost use Rattle.std.specs.Str.{bytes_eq};
 ghost use Rattle.mm_tree.specs.declared.node.Node.TheViews.{out-Node};
-ghost use Rattle.mm_tree.specs.Fragments.{contributors, fragment, fragment_tree, fragment_trees, less, named, rows_of, shown, some, subset};
-ghost use Rattle.mm_tree.specs.Fragmenting.{named_node, named_tree, stands_out};
+ghost use Rattle.mm_tree.specs.Fragments.{contributors, fragment, fragment_tree, fragment_trees, less, named, rows_of, shown, some, subset, named_tree};
+ghost use Rattle.mm_tree.specs.Inside.Fragmenting.{named_node, stands_out};
 ghost use Rattle.mm_tree.specs.Numbering.{forest_of};
-ghost use Rattle.mm_tree.specs.Search.{own, worded};
-ghost use Rattle.mm_tree.specs.Searching.{held_by, worded_node};
+ghost use Rattle.mm_tree.specs.Search.{own, worded, held_by};
+ghost use Rattle.mm_tree.specs.Inside.Searching.{worded_node};
 
 use crate::fragment::Fragment;
 use crate::node::Node;

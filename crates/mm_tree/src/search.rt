@@ -7,8 +7,8 @@ ghost use Rattle.mm_tree.specs.Numbering.{forest_of, node_of};
 ghost use Rattle.mm_tree.specs.Trees.{none, one};
 ghost use Rattle.mm_tree.specs.Search.{own, worded, slca, some_full};
 ghost use Rattle.mm_tree.specs.declared.node.Node.TheViews.{out-Node};
-ghost use Rattle.mm_tree.specs.Found.{IsFound};
-ghost use Rattle.mm_tree.specs.Searching.{either, held, own_answer, worded_node};
+ghost use Rattle.mm_tree.specs.Inside.Found.{IsFound};
+ghost use Rattle.mm_tree.specs.Inside.Searching.{either, held, own_answer, worded_node};
 
 mod owners;
 

@@ -2,7 +2,7 @@
 
 ghost use Rattle.std.specs.Prelude.{◌≡◌, ◌<◌, length, map, OnOk, OnErr};
 ghost use Rattle.mm_tree.specs.Numbering.{forest_of, node_of};
-ghost use Rattle.mm_tree.specs.Ways.{edit_down, change_of, at_index};
+ghost use Rattle.mm_tree.specs.Inside.Ways.{edit_down, change_of, at_index};
 
 use super::find::{is_same, way};
 use super::place::Place;

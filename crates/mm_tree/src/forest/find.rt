@@ -7,7 +7,7 @@ ghost use Rattle.std.specs.Cmp.Lexicographic.{pointwise};
 ghost use Rattle.mm_tree.specs.declared.node.Node.TheViews.{out-Node};
 ghost use Rattle.mm_tree.specs.Numbering.{forest_of, node_of};
 ghost use Rattle.mm_tree.specs.Forests.{is_well_formed};
-ghost use Rattle.mm_tree.specs.Ways.{AreSiblings, found_down, is_passed};
+ghost use Rattle.mm_tree.specs.Inside.Ways.{AreSiblings, found_down, is_passed};
 
 use crate::node::Node;
 use mm_label::Label;

@@ -3,7 +3,7 @@ ghost use Rattle.std.specs.Prelude.{◌≡◌, ◌+◌, ◌<◌, [], ℕ, IfOk, 
 ghost use Rattle.mm_tree.specs.declared.plain.Kind.TheVariants.{Element, Words};
 ghost use Rattle.mm_tree.specs.Trees.{none, node, one, tree_of, trees_of};
 ghost use Rattle.mm_tree.specs.Validity.{is_valid_tree};
-ghost use Rattle.mm_tree.specs.Examples.{bibliography, book, titled, Take};
+ghost use Rattle.mm_tree.specs.Examples.Bibliography.{bibliography, book, titled, Take};
 
 use super::Forest;
 use crate::node::Node;
@@ -54,7 +54,7 @@ fn book(alloc: Global, title: &str, author: &str) -> Result<Plain, AllocError>
     element(alloc, "book", inner)
 }
 
-#[tactic(auto, unfolding(crate::specs::Examples::bibliography))]
+#[tactic(auto, unfolding(crate::specs::Examples::Bibliography::bibliography))]
 pub fn bibliography(alloc: Global) -> Result<Plain, AllocError>
     ensures { IfOk result (λ t. tree_of t ≡ bibliography) }
 {

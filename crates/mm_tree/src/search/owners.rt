@@ -7,8 +7,8 @@ ghost use Rattle.mm_tree.specs.Trees.{one};
 ghost use Rattle.mm_tree.specs.Search.{worded};
 ghost use Rattle.mm_tree.specs.Elca.{elca};
 ghost use Rattle.mm_tree.specs.declared.node.Node.TheViews.{out-Node};
-ghost use Rattle.mm_tree.specs.Searching.{either, held, own_elca, worded_node};
-ghost use Rattle.mm_tree.specs.Spreads.{IsSpread};
+ghost use Rattle.mm_tree.specs.Inside.Searching.{either, held, own_elca, worded_node};
+ghost use Rattle.mm_tree.specs.Inside.Spreads.{IsSpread};
 
 use crate::forest::Forest;
 use crate::node::Node;

@@ -3,7 +3,7 @@ use Rattle.mm_tree.specs.declared.fragment.Fragment.{Fragment}
 use Rattle.mm_tree.specs.declared.node.Node.{Node}
 use Rattle.mm_tree.specs.Trees.{Trees}
 use Rattle.mm_tree.specs.Fragments.{Named, contributors, fragment_tree, rows_of, shown}
-use Rattle.mm_tree.specs.Fragmenting.{named_node, stands_out}
+use Rattle.mm_tree.specs.Inside.Fragmenting.{named_node, stands_out}
 use Rattle.mm_tree.proofs.FragmentFacts.{known, picked, picked_end, picked_no, picked_yes, row_is}
 use Rattle.mm_tree.proofs.calls.+pick.Goals.{then-stands_out+in_ok-children+in_ok-show+in_ok-push, else-stands_out}
 use Rattle.mm_tree.proofs.calls.+pick.Goals as goal

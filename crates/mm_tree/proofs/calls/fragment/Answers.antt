@@ -2,7 +2,7 @@ use Rattle.std.proofs.Common.{◌∙◌, ap, ap₂, List, ℕ}
 use Rattle.std.proofs.lemmas.Result.{IfOk-weaker}
 use Rattle.mm_tree.specs.declared.node.Node.{Node}
 use Rattle.mm_tree.specs.Fragments.{contributors, fragment_tree, fragment_trees, rows_of, shown}
-use Rattle.mm_tree.specs.Fragmenting.{named_node}
+use Rattle.mm_tree.specs.Inside.Fragmenting.{named_node}
 use Rattle.mm_tree.proofs.FragmentFacts.{fragment_is, known}
 use Rattle.mm_tree.proofs.calls.fragment.Goals as goal
 

@@ -2,7 +2,7 @@ use Rattle.std.proofs.Common.{◌∙◌, ap, List}
 use Rattle.mm_tree.specs.declared.node.Node.{Node}
 use Rattle.mm_tree.specs.Numbering.{forest_of}
 use Rattle.mm_tree.specs.Search.{worded}
-use Rattle.mm_tree.specs.Searching.{held}
+use Rattle.mm_tree.specs.Inside.Searching.{held}
 use Rattle.mm_tree.proofs.SearchFacts.{held_is}
 use Rattle.mm_tree.proofs.calls.row.Goals as goal
 

@@ -1,6 +1,6 @@
 use Rattle.std.proofs.Common.{◌∙◌, ap, length, refl, rules}
 use Rattle.std.proofs.lemmas.List.{length-map}
-use Rattle.mm_tree.specs.Searching.{either, held}
+use Rattle.mm_tree.specs.Inside.Searching.{either, held}
 use Rattle.mm_tree.proofs.FlagFacts.{never_either, length-either}
 use Rattle.mm_tree.proofs.SearchFacts.{seen, words_on, full_on, labels_on, words_end, full_end}
 use Rattle.mm_tree.proofs.search.+search.Goals as goal

@@ -1,6 +1,6 @@
 use Rattle.std.proofs.Common.{◌≡◌, ◌++◌, ◌||◌, drop, length}
 use Rattle.mm_tree.specs.Search.{some_full, slca}
-use Rattle.mm_tree.specs.Searching.{either, held}
+use Rattle.mm_tree.specs.Inside.Searching.{either, held}
 use Rattle.mm_tree.proofs.SearchFacts.{seen}
 use Rattle.mm_tree.proofs.search.+search.Given as goal
 

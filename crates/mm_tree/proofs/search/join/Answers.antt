@@ -1,5 +1,5 @@
 use Rattle.std.proofs.Common.{◌∙◌, sym, ap, arith, add-one, length, take, slice_set, true}
-use Rattle.mm_tree.specs.Searching.{either}
+use Rattle.mm_tree.specs.Inside.Searching.{either}
 use Rattle.mm_tree.proofs.FlagFacts.{length-either, either-none, either_same, either_set}
 use Rattle.mm_tree.proofs.search.join.Goals.{then-others-at, else-others-at}
 use Rattle.mm_tree.proofs.search.join.Goals as goal

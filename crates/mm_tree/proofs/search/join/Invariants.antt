@@ -1,5 +1,5 @@
 use Rattle.std.proofs.Common.{◌≡◌, take}
-use Rattle.mm_tree.specs.Searching.{either}
+use Rattle.mm_tree.specs.Inside.Searching.{either}
 use Rattle.mm_tree.proofs.search.join.Given as goal
 
 abbrev pub invariant-loop-at : goal.invariant-loop-at

@@ -1,6 +1,6 @@
 use Rattle.std.proofs.Common.{◌≡◌, ◌∙◌, sym, ap, ◌++◌, [], ◌∷◌, append-nil}
 use Rattle.std.specs.List.{list_all}
-use Rattle.mm_tree.specs.Searching.{worded_node, own_answer}
+use Rattle.mm_tree.specs.Inside.Searching.{worded_node, own_answer}
 use Rattle.mm_tree.proofs.SearchFacts.{inside, held_is, held_one, full_is, full_one, answer_here, answer_above, answer_below}
 use Rattle.mm_tree.proofs.search.take_up.Goals.{then-full+then-not-inside+in_ok-copy+in_ok-push, else-full, else-full-via-then-full+else-not-inside, else-full-via-else-full}
 use Rattle.mm_tree.proofs.search.take_up.Goals as goal

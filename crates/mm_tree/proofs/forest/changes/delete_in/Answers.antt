@@ -1,7 +1,7 @@
 use Rattle.std.proofs.Common.{ap, sym, ◌∙◌, ◌≡◌}
 use Rattle.std.specs.Prelude.{Some}
 use Rattle.mm_tree.specs.Numbering.{forest_of, node_of}
-use Rattle.mm_tree.specs.Ways.{found_down}
+use Rattle.mm_tree.specs.Inside.Ways.{found_down}
 use Rattle.mm_tree.proofs.EditFacts.{absent_by, found_by, present_by, the_deletion, deletion_formed, absent_delete, accepted_delete, size_is}
 use Rattle.mm_tree.proofs.forest.changes.delete_in.Goals as goal
 use Rattle.mm_tree.proofs.forest.changes.delete_in.Goals.{In_ok-edit_below}

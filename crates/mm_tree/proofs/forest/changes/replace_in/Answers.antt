@@ -2,7 +2,7 @@ use Rattle.std.proofs.Common.{ap, sym, subst, ◌∙◌, ◌+◌, ◌-◌, ◌�
 use Rattle.std.proofs.lemmas.Result.{err_from_is_err_and}
 use Rattle.mm_tree.specs.Trees.{tree_of, one, levels}
 use Rattle.mm_tree.specs.Numbering.{forest_of, node_of}
-use Rattle.mm_tree.specs.Ways.{found_down}
+use Rattle.mm_tree.specs.Inside.Ways.{found_down}
 use Rattle.mm_tree.proofs.MeasureFacts.{node_count_fits}
 use Rattle.mm_tree.proofs.EditFacts.{absent_by, present_by, absent_replace, there_and_placed, Replacing, the_replacement, replacement_formed, has_room_here, number_refused}
 use Rattle.mm_tree.proofs.forest.changes.replace_in.Goals as goal

@@ -2,7 +2,7 @@ use Rattle.std.proofs.Common.{arith, ◌≡◌, ap, sym, ◌∙◌, true, false}
 use Rattle.std.specs.Prelude.{map}
 use Rattle.std.specs.List.{prefix_len}
 use Rattle.mm_tree.specs.Numbering.{node_of}
-use Rattle.mm_tree.specs.Ways.{change_of, at_index}
+use Rattle.mm_tree.specs.Inside.Ways.{change_of, at_index}
 use Rattle.mm_tree.proofs.PlaceFacts.{on_ok, on_err, none_on_way, on_way_at, set_back, off_way, below_set, same_list}
 use Rattle.mm_tree.proofs.forest.edit.+edit_below.Goals as goal
 

@@ -1,7 +1,7 @@
 use Rattle.std.proofs.Common.{sym, subst, ◌∙◌, true, false, List}
 use Rattle.mm_tree.specs.declared.node.Node.{Node}
 use Rattle.mm_tree.specs.Numbering.{forest_of}
-use Rattle.mm_tree.specs.Ways.{AreSiblings}
+use Rattle.mm_tree.specs.Inside.Ways.{AreSiblings}
 use Rattle.mm_tree.proofs.HalvingLaws.{children_are, found_off, found_there, passed_all, same_leads}
 use Rattle.mm_tree.proofs.forest.find.+find_among.Goals as goal
 

@@ -1,6 +1,6 @@
 use Rattle.std.proofs.Common.{◌+◌, ◌*◌}
 use Rattle.mm_tree.specs.Trees.{one, tree_of}
-use Rattle.mm_tree.specs.Examples.{Take}
+use Rattle.mm_tree.specs.Examples.Bibliography.{Take}
 use Rattle.mm_tree.proofs.forest.tests.long.Given as goal
 
 abbrev pub invariant-loop-two : goal.invariant-loop-two

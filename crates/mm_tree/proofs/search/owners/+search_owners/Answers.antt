@@ -1,7 +1,7 @@
 use Rattle.std.proofs.Common.{◌∙◌, ap, length, refl, sym}
 use Rattle.std.proofs.lemmas.List.{length-map}
 use Rattle.mm_tree.specs.Elca.{elca}
-use Rattle.mm_tree.specs.Searching.{either, held, held_outside}
+use Rattle.mm_tree.specs.Inside.Searching.{either, held, held_outside}
 use Rattle.mm_tree.proofs.FlagFacts.{never_either, length-either}
 use Rattle.mm_tree.proofs.SearchFacts.{seen, inside, words_on, words_end}
 use Rattle.mm_tree.proofs.OwnerFacts.{outside_on, outside_end, owners_on, owners_end, below_is, unless_length}

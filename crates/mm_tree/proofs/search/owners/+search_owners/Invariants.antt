@@ -1,6 +1,6 @@
 use Rattle.std.proofs.Common.{◌≡◌, ◌++◌, drop, length}
 use Rattle.mm_tree.specs.Elca.{elca}
-use Rattle.mm_tree.specs.Searching.{either, held, held_outside}
+use Rattle.mm_tree.specs.Inside.Searching.{either, held, held_outside}
 use Rattle.mm_tree.proofs.SearchFacts.{seen}
 use Rattle.mm_tree.proofs.search.owners.+search_owners.Given as goal
 

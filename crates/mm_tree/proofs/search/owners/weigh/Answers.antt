@@ -1,6 +1,6 @@
 use Rattle.std.proofs.Common.{◌∙◌, sym, ap, ◌++◌, ◌∷◌, take, drop}
 use Rattle.std.specs.List.{list_all}
-use Rattle.mm_tree.specs.Searching.{worded_node, own_elca}
+use Rattle.mm_tree.specs.Inside.Searching.{worded_node, own_elca}
 use Rattle.mm_tree.proofs.SearchFacts.{inside}
 use Rattle.mm_tree.proofs.OwnerFacts.{owned_is, owns_is, owner_here, owner_none, put_between, put_nothing, held_after, no_more}
 use Rattle.mm_tree.proofs.search.owners.weigh.Goals.{then-all+in_ok-copy+in_ok-insert, else-all}

@@ -13,9 +13,6 @@ use Rattle.mm_tree.specs.Fragments.{Named, named, named_as, less, some}
 abbrev pub named_node : Node → Named
 named_node n = record { label = (out-Node n).label; name = name_of (out-Node n).kind; words = own (out-Node n).kind }
 
-abbrev pub named_tree : Node → Tree Named
-named_tree n = (named_as (node_of n).0, named (node_of n).1)
-
 -- the row is not full and not empty, and none of the others is a strict superset
 abbrev pub stands_out : List (List Bool) → List Bool → Bool
 stands_out all row = not (list_all (λ flag. flag) row) && (some row && not (list_any (less row) all))

@@ -2,7 +2,7 @@
 use Rattle.std.specs.Prelude.{ℕ, List, ◌≡◌}
 use Rattle.mm_tree.specs.Trees.{Trees}
 use Rattle.mm_tree.specs.Search.{Worded}
-use Rattle.mm_tree.specs.Searching.{held, held_outside}
+use Rattle.mm_tree.specs.Inside.Searching.{held, held_outside}
 use Rattle.mm_tree.specs.declared.search.owners.Spread.{Spread}
 
 -- which words of the query they hold, and which of them those that aren't full

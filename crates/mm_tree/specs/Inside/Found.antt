@@ -2,7 +2,7 @@
 use Rattle.std.specs.Prelude.{ℕ, List, ◌≡◌}
 use Rattle.mm_tree.specs.Trees.{Trees}
 use Rattle.mm_tree.specs.Search.{Worded, some_full}
-use Rattle.mm_tree.specs.Searching.{held}
+use Rattle.mm_tree.specs.Inside.Searching.{held}
 use Rattle.mm_tree.specs.declared.search.Found.{Found}
 
 -- which words of the query they hold, and whether one of the siblings is full

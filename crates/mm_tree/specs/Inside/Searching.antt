@@ -16,10 +16,6 @@ either (flag ∷ flags) (other ∷ others) = (flag || other) ∷ either flags ot
 abbrev pub held : List (List ℕ) → Trees Worded → List Bool
 held query trees = map (λ w. holds w trees) query
 
--- for each word of the query, whether it is one of the node's own, or of a node's below it
-abbrev pub held_by : List (List ℕ) → Worded → Trees Worded → List Bool
-held_by query e inner = map (λ w. has e w || holds w inner) query
-
 -- the node's label, where it is full and none of its children is
 abbrev pub own_answer : List (List ℕ) → Worded → Trees Worded → List (List ℤ)
 own_answer query e inner = if is_full query e inner && not (some_full query inner) then e.label ∷ [] else []

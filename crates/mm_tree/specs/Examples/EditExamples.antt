@@ -9,7 +9,7 @@ use Rattle.mm_tree.specs.Numbering.{Labelled}
 use Rattle.mm_tree.specs.Forests.{numbered_behind}
 use Rattle.mm_tree.specs.Edits.{subtree_size, insert, delete, replace, inserted_label, insert_refusal, delete_refusal, replace_refusal}
 use Rattle.mm_tree.specs.Order.{labels}
-use Rattle.mm_tree.specs.Examples.{bibliography}
+use Rattle.mm_tree.specs.Examples.Bibliography.{bibliography}
 
 -- the bibliography with its labels, whose books are 1.1 and 1.3
 unfoldable bib : Trees Labelled

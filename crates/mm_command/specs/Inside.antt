@@ -1,0 +1,2 @@
+-- What private contracts and proofs speak of.
+pub mod Showing
