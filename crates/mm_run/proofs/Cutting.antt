@@ -73,7 +73,7 @@ module _ {start begun : Option Begun} {got : List ℕ} (leads : Leads start begu
   next-after c k (Ok next.End) given = last-after given
   next-after c k (Ok next.Full) given = (rest-after given.0, given.1)
   next-after c k (Err Source) given = rest-after given
-  next-after c k (Err Memory) given = tt
+  next-after c k (Err Memory) given = record { got = got ++ given.got; went = went-more went given.went }
 
 -- a line of a payload leads on
 row-leads : (form : Form) (rows : List (List ℕ)) (row : List ℕ) → HasNoLineFeed row → closes row ≡ false

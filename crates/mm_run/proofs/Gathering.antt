@@ -55,7 +55,7 @@ module _ {form : Form} {a b : Option (List ℕ)} {n m : ℕ} {payload : List ℕ
   pub gathers-failed : (c : Option (List ℕ)) (k : ℕ) (payload' : List ℕ) (limit : ℕ) (error : ReadError) → GivesRow b c m k payload payload' limit (Err error)
       → GivesNext (Some (record { form = form; rows = [] })) a c n k (Err error)
   gathers-failed c k payload' limit Source part = gathers.onward.each _ _ (Err Source) (part-rest part)
-  gathers-failed c k payload' limit Memory given = tt
+  gathers-failed c k payload' limit Memory given = gathers.onward.each _ _ (Err Memory) given
 
   -- a line that passes the limit, and then what skipping the rest does
   pub gathers-over : {c : Option (List ℕ)} {k : ℕ} (w : WentRow b c m k false) → payload_limit < length payload + length (unstopped w.row) → (d : Option (List ℕ)) (j : ℕ) (result : Result Next ReadError)
@@ -94,4 +94,4 @@ module _ {form : Form} {a b : Option (List ℕ)} {n m : ℕ} (skips : Skips form
   pub skips-failed : (c : Option (List ℕ)) (k : ℕ) (rows : List (List ℕ)) → payload_limit < length (joined rows) → (payload payload' : List ℕ) (limit : ℕ) (error : ReadError) → GivesRow b c m k payload payload' limit (Err error)
       → GivesNext (Some (record { form = form; rows = rows })) a c n k (Err error)
   skips-failed c k rows over payload payload' limit Source part = let s = skips.each rows over in s.2.each c k (Err Source) (part-rest part)
-  skips-failed c k rows over payload payload' limit Memory given = tt
+  skips-failed c k rows over payload payload' limit Memory given = let s = skips.each rows over in s.2.each c k (Err Memory) given

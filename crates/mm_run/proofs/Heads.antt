@@ -46,7 +46,7 @@ last-kept line next.Full is = is
 -- no line could be read
 pub line-failed : (a b : Option (List ℕ)) (n m : ℕ) (text text' : List ℕ) (limit : ℕ) (error : ReadError) → GivesLine a b n m text text' limit (Err error) → GivesNext None a b n m (Err error)
 line-failed a b n m text text' limit Source part = part-rest part
-line-failed a b n m text text' limit Memory given = tt
+line-failed a b n m text text' limit Memory given = given
 
 -- what is asked for by a line that was read into an empty text
 pub read-form : (line text text' now : List ℕ) (form : Form) → form ≡ form_of now → now ≡ text' → text' ≡ take (line_limit + 2) (text ++ line) → text ≡ [] → form ≡ form_of line
@@ -58,7 +58,7 @@ pub last-given : {a b : Option (List ℕ)} {n m : ℕ} (line text text' now : Li
 last-given line text text' now (Ok next) went part end few is memory same kept empty =
     went-last line next went part end few (last-kept line next (subst (λ l. IsLast l next) (same ∙ kept ∙ ap (λ l. take (line_limit + 2) (l ++ line)) empty) is))
 last-given line text text' now (Err Source) went part end few is memory same kept empty = cc
-last-given line text text' now (Err Memory) went part end few is memory same kept empty = tt
+last-given line text text' now (Err Memory) went part end few is memory same kept empty = record { got = line; went = went }
 
 module _ {a b : Option (List ℕ)} {n m : ℕ} (line : List ℕ) (form : Form) (is : form ≡ form_of line) (went : Went a b n m (line ++ 10 ∷ [])) (part : HasNoLineFeed line) where
   pub head-quit : quits form ≡ true → WentQuit None a b n m

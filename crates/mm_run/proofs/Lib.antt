@@ -8,7 +8,7 @@ pub mod Heads
 pub mod Planning
 pub mod Tested
 pub mod Turns
-pub mod Spending
 pub mod Telling
 pub mod OneReply
+pub mod SomeReply
 pub mod Shown

@@ -8,7 +8,7 @@ use Rattle.mm_run.specs.declared.line.Ending.TheVariants.{Feed, Input}
 use Rattle.mm_run.specs.Buffer.{Buffered}
 use Rattle.mm_run.specs.Lines.{HasNoLineFeed}
 use Rattle.mm_run.specs.Input.{rest, reach, Went}
-use Rattle.mm_run.specs.Step.{KeepsLine, WentPart, GivesLine}
+use Rattle.mm_run.specs.Step.{KeepsLine, WentPart, WentSome, GivesLine}
 use Rattle.mm_run.proofs.Going.{prepend_known-append, went-none, went-more, went-still, no_feed-append}
 
 -- what is cut from the front may be cut again
@@ -57,6 +57,9 @@ module _ {before after : Option (List ℕ)} {n m limit : ℕ} {text text' : List
   pub so_far-rest : WentPart before after n m
   so_far-rest = record { got = so.line; went = so.went; part = so.keeps.part }
 
+  pub so_far-some : WentSome before after n m
+  so_far-some = record { got = so.line; went = so.went }
+
   pub so_far-part : {c : Option (List ℕ)} {k : ℕ} (part : List ℕ) → Went after c m k part → HasNoLineFeed part → (text'' : List ℕ) → text'' ≡ take limit (text' ++ part) → SoFar before c n k text text'' limit
   so_far-part part went none text'' is = record { line = so.line ++ part; went = went-more so.went went; keeps = kept-more part none text'' is }
 
@@ -67,6 +70,11 @@ module _ {before after : Option (List ℕ)} {n m limit : ℕ} {text text' : List
     (let both = went-more so.went went in record { bytes = both.bytes ∙ ap (λ l. prepend_known l c) (sym (append_assoc so.line part (10 ∷ []))); count = omega (arith, both.count, length-append so.line (part ++ 10 ∷ []), length-append so.line part, length-append part (10 ∷ []), length-append (so.line ++ part) (10 ∷ [])) }),
     kept-more part none text'' is,
   )
+
+-- the buffer hands out nothing
+pub taken-none : (left : Option (List ℕ)) (buffer buffer' : Buffered) → buffer'.held ≡ buffer.held → buffer'.room ≡ buffer.room
+    → Went (rest left buffer) (rest left buffer') (reach buffer) (reach buffer') []
+taken-none left buffer buffer' same room = taken left buffer buffer' [] (sym same) room
 
 -- the buffer hands out a line's end
 pub taken-feed : (left : Option (List ℕ)) (buffer buffer' : Buffered) (part : List ℕ) → buffer.held ≡ part ++ 10 ∷ buffer'.held → buffer'.room ≡ buffer.room

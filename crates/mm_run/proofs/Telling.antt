@@ -1,21 +1,23 @@
 -- From the turns of a run to what it wrote.
-use Rattle.std.proofs.Common.{◌∷◌, ◌≡◌, ℕ, ◌≤◌, List, [], length, refl, ap, sym, subst, ◌∙◌, arith, length-append, Some, None, inl, inr, ⊎_elim}
-use Rattle.std.proofs.lemmas.List.{nil_from_length, take_all}
+use Rattle.std.proofs.Common.{◌∷◌, ◌≡◌, ℕ, ◌+◌, ◌<◌, ◌≤◌, List, [], ◌++◌, length, take, refl, ap, sym, subst, ◌∙◌, ◌⊎◌, arith, length-append, append_assoc, append-nil, Some, None, Result, Ok, Err, inl, inr, ⊎_elim, false}
+use Rattle.std.proofs.lemmas.List.{nil_from_length}
 use Rattle.std.specs.declared.option.Option.{Option}
 use Rattle.std.specs.Io.KnownBytes.{prepend_known, append_known, IsAtEnd}
-use Rattle.mm_host.specs.Causes.{Rose}
+use Rattle.mm_host.specs.Causes.{HasCause, next_count}
+use Rattle.mm_host.specs.Moves.{WritesAll}
+use Rattle.mm_host.specs.declared.failed.Failed.{Failed}
 use Rattle.mm_tree.specs.Trees.{Trees, none}
 use Rattle.mm_tree.specs.Numbering.{Labelled}
 use Rattle.mm_run.specs.declared.command.Command.{Command}
 use Rattle.mm_run.specs.declared.status.Status.{Status}
 use Rattle.mm_run.specs.declared.status.Status.TheVariants as status
 use Rattle.mm_run.specs.Buffer.{Buffered}
-use Rattle.mm_run.specs.Commands.{all_commands}
-use Rattle.mm_run.specs.Answers.{Replies}
+use Rattle.mm_run.specs.Commands.{commands, all_commands}
 use Rattle.mm_run.specs.Input.{rest, reach}
-use Rattle.mm_run.specs.Steps.{Spends}
-use Rattle.mm_run.specs.Run.{State, Served, Spent, Answered, First, Tells, Writes, EndsWith, AreReplies, fault_line, HasQuit, HasNoQuit, input_limit}
-use Rattle.mm_run.proofs.Going.{prepend_known-nil}
+use Rattle.mm_run.specs.Statuses.{fault_line, sink_faults_after, HasSinkFaults}
+use Rattle.mm_run.specs.Run.{Streams, AreAnswered, HasEnd, HasLine, IsShown, Runs, input_limit}
+use Rattle.mm_run.specs.Inside.Turning.{State, Served, HasStopped, IsFront, EndsWith}
+use Rattle.mm_run.proofs.Going.{prepend_known-nil, prepend_known-append}
 use Rattle.mm_run.proofs.Turns.{known-rest, append_known-twice, append_known-nil}
 
 -- nothing is left behind bytes that are none
@@ -31,101 +33,141 @@ bare left buffer nothing = ap (λ l. prepend_known l left) nothing ∙ prepend_k
 full-reach : (buffer : Buffered) → buffer.held ≡ [] → buffer.room ≡ input_limit → reach buffer ≡ input_limit
 full-reach buffer nothing room = omega (arith, ap length nothing)
 
--- replies from the empty forest
-replied : {old new : State} {cs : List Command} (answered : Answered old new cs) → old.forest ≡ none → AreReplies cs answered.replies
-replied {old} {new} {cs} answered empty = (new.forest, subst (λ (f : Trees Labelled). Replies f cs answered.replies new.forest) empty answered.all)
+told-which : (s : Status) (got held : List ℕ) (answered others : List Command) → (s ≡ status.SourceFault → held ≡ []) → AreAnswered got s answered others → AreAnswered (got ++ held) s answered others
+told-which status.SourceFault got held answered others bare which = which ∙ ap (λ l. commands l false) (sym (append-nil got) ∙ ap (λ l. got ++ l) (sym (bare refl)))
+told-which s got held answered others bare which = which
 
-module _ (left left' written written' : Option (List ℕ)) (buffer buffer' : Buffered) (forest forest' : Trees Labelled)
+told-shown : (s : Status) (before now : ℕ) (replies shown : List ℕ) → now ≡ sink_faults_after s before → IsFront s replies shown → IsShown before now replies [] shown s
+told-shown status.SinkFault before now replies shown count front = front
+told-shown s before now replies shown count front = inl (front ∙ sym (append-nil replies), count)
+
+told-end : (s : Status) (left' : Option (List ℕ)) (held got bytes : List ℕ) (room steps : ℕ) (written : Option (List ℕ)) (forest : Trees Labelled) (answered : List Command)
+    → Some bytes ≡ prepend_known got (prepend_known held left') → input_limit ≡ (length held + room) + length got
+    → HasStopped (record { rest = prepend_known held left'; reach = length held + room; written = written; forest = forest; steps = steps }) answered s → HasEnd left' bytes (got ++ held) answered s
+told-end status.Ok left' held got bytes room steps written forest answered moved count stopped = ⊎_elim
+    (λ end. let k = known-rest (Some bytes) (prepend_known held left') got bytes moved refl in
+    let over : k.0 ≡ [] = subst IsAtEnd k.1 end.0 in
+    inl (at-end left' held end.0, omega (arith, end.1, count, ap length k.2, length-append got k.0, ap length over)))
+    (λ quit. inr quit)
+    stopped
+told-end status.Usage left' held got bytes room steps written forest answered moved count stopped = absurd stopped
+told-end status.TooMuchInput left' held got bytes room steps written forest answered moved count stopped = (omega (arith, stopped.0, count, length-append got held), stopped.1)
+told-end s left' held got bytes room steps written forest answered moved count stopped = tt
+
+module _ (left left' written written' : Option (List ℕ)) (buffer buffer' : Buffered) (forest forest' : Trees Labelled) (steps steps' faults faults' : ℕ)
     (nothing : buffer.held ≡ []) (room : buffer.room ≡ input_limit) (empty : forest ≡ none) where
-  reaches : reach buffer ≡ input_limit
-  reaches = full-reach buffer nothing room
+  -- the same from the empty buffer and the empty forest
+  from-start : (new : State) (s : Status) → Served (record { rest = rest left buffer; reach = reach buffer; written = written; forest = forest; steps = steps }) new s
+      → Served (record { rest = left; reach = input_limit; written = written; forest = none; steps = steps }) new s
+  from-start new s served =
+      subst (λ (f : Trees Labelled). Served (record { rest = left; reach = input_limit; written = written; forest = f; steps = steps }) new s) empty
+      (subst (λ (n : ℕ). Served (record { rest = left; reach = n; written = written; forest = forest; steps = steps }) new s) (full-reach buffer nothing room)
+      (subst (λ (r : Option (List ℕ)). Served (record { rest = r; reach = reach buffer; written = written; forest = forest; steps = steps }) new s) (bare left buffer nothing) served))
 
-  -- all that counts of the bytes that the source held
-  all-of : (bytes : List ℕ) (P : List Command → Type 0) → P (all_commands (reach buffer) bytes) → P (all_commands input_limit bytes)
-  all-of bytes P h = subst (λ (n : ℕ). P (all_commands n bytes)) reaches h
-
-  first-of : (bytes replies : List ℕ) → First forest (all_commands (reach buffer) bytes) replies → First none (all_commands input_limit bytes) replies
-  first-of bytes replies first = subst (λ (f : Trees Labelled). First f (all_commands input_limit bytes) replies) empty (all-of bytes (λ cs. First forest cs replies) first)
-
-  pub tells : (bytes : List ℕ) (s : Status) (steps steps' : ℕ) → left ≡ Some bytes → (s ≡ status.SourceFault → buffer'.held ≡ [])
+  pub tells : (bytes : List ℕ) (s : Status) → left ≡ Some bytes → (s ≡ status.SourceFault → buffer'.held ≡ []) → faults' ≡ sink_faults_after s faults
       → Served (record { rest = rest left buffer; reach = reach buffer; written = written; forest = forest; steps = steps })
       (record { rest = rest left' buffer'; reach = reach buffer'; written = written'; forest = forest'; steps = steps' }) s
-      → Tells left left' written written' bytes s
-  tells bytes status.Ok steps steps' known held served =
-      let answered = served.0.each bytes (bare left buffer nothing ∙ known) in (
-        answered.replies,
-        all-of bytes (λ cs. AreReplies cs answered.replies) (replied answered empty),
-        answered.written,
-        ⊎_elim
-            (λ end. let k = known-rest _ _ served.1.got bytes served.1.moved.bytes (bare left buffer nothing ∙ known) in
-            let over : k.0 ≡ [] = subst IsAtEnd k.1 end.0 in
-            inl (at-end left' buffer'.held end.0, omega (arith, end.1, served.1.moved.count, reaches, ap length k.2, length-append served.1.got k.0, ap length over)))
-            (λ quit. inr (all-of bytes HasQuit (quit bytes (bare left buffer nothing ∙ known))))
-            served.1.why,
-      )
-  tells bytes status.Usage steps steps' known held served = served
-  tells bytes status.DiskFault steps steps' known held served = served
-  tells bytes (status.Damaged damage) steps steps' known held served = served
-  tells bytes status.SourceFault steps steps' known held served = (
-    served.got,
-    served.answered.replies,
-    sym (bare left buffer nothing) ∙ served.moved.bytes ∙ ap (prepend_known served.got) (bare left' buffer' (held refl)),
-    replied served.answered empty,
-    served.answered.written,
-  )
-  tells bytes status.SinkFault steps steps' known held served =
-      let h = served.each bytes (bare left buffer nothing ∙ known) in
-      (h.0, first-of bytes h.0 h.1, h.2, h.3)
-  tells bytes status.Memory steps steps' known held served =
-      let h = served.each bytes (bare left buffer nothing ∙ known) in
-      (h.0, first-of bytes h.0 h.1, h.2)
-  tells bytes status.TooMuchInput steps steps' known held served =
-      let empty_now : buffer'.held ≡ [] = nil_from_length _ (omega (arith, served.1.full)) in
-      let answered = served.0.each bytes (bare left buffer nothing ∙ known) in (
-        served.1.got,
-        answered.replies,
-        sym (bare left buffer nothing) ∙ served.1.moved.bytes ∙ ap (prepend_known served.1.got) (bare left' buffer' empty_now),
-        omega (arith, served.1.moved.count, served.1.full, reaches),
-        all-of bytes HasNoQuit (served.1.goes_on bytes (bare left buffer nothing ∙ known)),
-        all-of bytes (λ cs. AreReplies cs answered.replies) (replied answered empty),
-        answered.written,
-      )
+      → Runs [] (record { left = left; written = written; sink_faults = faults; steps = steps }) (record { left = left'; written = written'; sink_faults = faults'; steps = steps' }) bytes s
+  tells bytes s known held count served =
+      let h = (from-start _ s served).each bytes known in
+      record {
+        taken = h.got ++ buffer'.held;
+        left = h.moved.bytes ∙ sym (prepend_known-append h.got buffer'.held left');
+        few = omega (arith, h.moved.count, length-append h.got buffer'.held);
+        answered = h.answered;
+        others = h.others;
+        split = h.split;
+        which = told-which s h.got buffer'.held h.answered h.others held h.which;
+        end = told-end s left' buffer'.held h.got bytes buffer'.room steps' written' forest' h.answered (sym known ∙ h.moved.bytes) h.moved.count h.stopped;
+        replies = h.replies;
+        after = h.after;
+        answers = h.answers;
+        shown = h.shown;
+        is_shown = told-shown s faults faults' h.replies h.shown count h.is_front;
+        written = h.written;
+        total = h.total;
+        costs = h.costs;
+        steps = h.steps;
+      }
 
-  pub spends : (bytes : List ℕ) (steps steps' : ℕ) → left ≡ Some bytes
-      → Spent (record { rest = rest left buffer; reach = reach buffer; written = written; forest = forest; steps = steps })
-      (record { rest = rest left' buffer'; reach = reach buffer'; written = written'; forest = forest'; steps = steps' })
-      → Spends none (all_commands input_limit bytes) steps steps'
-  spends bytes steps steps' known spent =
-      subst (λ (f : Trees Labelled). Spends f (all_commands input_limit bytes) steps steps') empty (all-of bytes (λ cs. Spends forest cs steps steps') (spent.each bytes (bare left buffer nothing ∙ known)))
-
--- memory ran out before anything was read
-pub told-nothing : (left left' written : Option (List ℕ)) (bytes : List ℕ) → Tells left left' written written bytes status.Memory
-told-nothing left left' written bytes = (
-  [],
-  record { answered = []; others = all_commands input_limit bytes; split = refl; after = none; all = (refl, refl) },
-  sym (append_known-nil written),
-)
-
--- the replies, and then a fault's line
-ends-after : {a b c : Option (List ℕ)} {bytes line : List ℕ} {n m k : ℕ} → b ≡ append_known a bytes → n ≤ m → EndsWith b c [] line m k → EndsWith a c bytes line n k
-ends-after {a} {b} {c} {bytes} {line} {n} {m} {k} first le end = record {
-  shown = end.shown;
-  written = end.written ∙ ap (λ w. append_known w end.shown) first ∙ append_known-twice a bytes end.shown;
-  whole = ⊎_elim (λ e. inl e) (λ h. inr (h.0, h.1, (let rose : Rose m k = h.2 in omega arith))) end.whole;
+-- nothing was read, and no command answered
+pub told-nothing : (line : List ℕ) (left written written' : Option (List ℕ)) (shown : List ℕ) (faults faults' steps steps' : ℕ) (bytes : List ℕ) (s : Status) → written' ≡ append_known written shown → steps' ≤ steps
+    → ((others : List Command) → AreAnswered [] s [] others) → HasEnd left bytes [] [] s → IsShown faults faults' [] line shown s
+    → Runs line (record { left = left; written = written; sink_faults = faults; steps = steps }) (record { left = left; written = written'; sink_faults = faults'; steps = steps' }) bytes s
+told-nothing line left written written' shown faults faults' steps steps' bytes s wrote most which end is_shown = record {
+  taken = [];
+  left = sym (prepend_known-nil left);
+  few = omega arith;
+  answered = [];
+  others = all_commands input_limit bytes;
+  split = refl;
+  which = which (all_commands input_limit bytes);
+  end = end;
+  replies = [];
+  after = none;
+  answers = (refl, refl);
+  shown = shown;
+  is_shown = is_shown;
+  written = wrote;
+  total = 0;
+  costs = (refl, refl);
+  steps = omega (arith, most);
 }
 
--- the line of a status that has none
-no-line : {b c : Option (List ℕ)} {n m : ℕ} → EndsWith b c [] [] n m → c ≡ b
-no-line {b} {c} end = end.written ∙ ap (append_known b) (⊎_elim (λ e. e) (λ h. h.1 ∙ take_all h.0 [] (omega arith)) end.whole) ∙ append_known-nil b
+-- a line that was written, as far as that came
+pub line-written : (a b : Option (List ℕ)) (piece line : List ℕ) (before now : ℕ) (result : Result (Unit {0}) Failed) → piece ≡ line → WritesAll a b result piece → HasCause before now result → EndsWith a b line before now
+line-written a b piece line before now (Ok u) same wrote cause = record { shown = line; written = wrote.all ∙ ap (append_known a) same; whole = inl (refl, cause.answered) }
+line-written a b piece line before now (Err e) same wrote cause = record {
+  shown = take wrote.all.0 line;
+  written = wrote.all.2 ∙ ap (λ l. append_known a (take wrote.all.0 l)) same;
+  whole = inr (wrote.all.0, omega (arith, wrote.all.1, ap length same), refl, cause.failed);
+}
+
+-- no line, and so no failure at it
+no-line : (replies shown : List ℕ) (before now : ℕ) → HasLine before now replies [] shown → (shown ≡ replies) × (now ≡ before)
+no-line replies shown before now has = ⊎_elim (λ h. (h.0 ∙ append-nil replies, h.1)) (λ h. absurd (omega (arith, h.1))) has
+
+-- the replies whole, and then the line
+shown-line : (replies line first second : List ℕ) (n m k : ℕ) → HasLine n m replies [] first → HasLine m k [] line second → HasLine n k replies line (first ++ second)
+shown-line replies line first second n m k told end =
+    let whole = no-line replies first n m told in
+    ⊎_elim
+    (λ h. inl (ap (λ l. l ++ second) whole.0 ∙ ap (λ l. replies ++ l) h.0, h.1 ∙ whole.1))
+    (λ h. inr (h.0, h.1, ap (λ l. l ++ second) whole.0 ∙ ap (λ l. replies ++ l) h.2, h.3 ∙ ap next_count whole.1))
+    end
+
+shown-more : (s : Status) (replies first second : List ℕ) (n m k : ℕ) → IsShown n m replies [] first s → HasLine m k [] (fault_line s) second → IsShown n k replies (fault_line s) (first ++ second) s
+unfolding fault_line
+shown-more status.SinkFault replies first second n m k told end = (told.0, told.1, ap (λ l. first ++ l) (no-line [] second m k end).0 ∙ append-nil first ∙ told.2)
+shown-more s replies first second n m k told end = shown-line replies (fault_line s) first second n m k told end
 
 -- What was told, and then the fault's line.
-pub writes : (left left' a b c : Option (List ℕ)) (n m k : ℕ) (bytes : List ℕ) (s : Status) → n ≤ m → Tells left left' a b bytes s → EndsWith b c [] (fault_line s) m k → Writes left left' a c n k bytes s
+pub writes : (left left' a b c : Option (List ℕ)) (n m k steps steps' : ℕ) (bytes : List ℕ) (s : Status)
+    → Runs [] (record { left = left; written = a; sink_faults = n; steps = steps }) (record { left = left'; written = b; sink_faults = m; steps = steps' }) bytes s → EndsWith b c (fault_line s) m k
+    → Runs (fault_line s) (record { left = left; written = a; sink_faults = n; steps = steps }) (record { left = left'; written = c; sink_faults = k; steps = steps' }) bytes s
+writes left left' a b c n m k steps steps' bytes s told end = record {
+  taken = told.taken;
+  left = told.left;
+  few = told.few;
+  answered = told.answered;
+  others = told.others;
+  split = told.split;
+  which = told.which;
+  end = told.end;
+  replies = told.replies;
+  after = told.after;
+  answers = told.answers;
+  shown = told.shown ++ end.shown;
+  is_shown = shown-more s told.replies told.shown end.shown n m k told.is_shown end.whole;
+  written = end.written ∙ ap (λ w. append_known w end.shown) told.written ∙ append_known-twice a told.shown end.shown;
+  total = told.total;
+  costs = told.costs;
+  steps = told.steps;
+}
+
+-- what the line may have added to the sink's count
+pub counts : (s : Status) (b c : Option (List ℕ)) (n m k : ℕ) → m ≡ sink_faults_after s n → EndsWith b c (fault_line s) m k → HasSinkFaults s n k
 unfolding fault_line
-writes left left' a b c n m k bytes status.Ok le told end = (told.0, told.1, no-line end ∙ told.2, told.3)
-writes left left' a b c n m k bytes status.Usage le told end = absurd told
-writes left left' a b c n m k bytes status.DiskFault le told end = told
-writes left left' a b c n m k bytes (status.Damaged damage) le told end = told
-writes left left' a b c n m k bytes status.SourceFault le told end = (told.0, told.1, told.2, told.3, ends-after told.4 le end)
-writes left left' a b c n m k bytes status.SinkFault le told end = (told.0, told.1, told.2, no-line end ∙ told.3)
-writes left left' a b c n m k bytes status.Memory le told end = (told.0, told.1, ends-after told.2 le end)
-writes left left' a b c n m k bytes status.TooMuchInput le told end = (told.0, told.1, told.2, told.3, told.4, told.5, ends-after told.6 le end)
+counts status.Ok b c n m k count end = (no-line [] end.shown m k end.whole).1 ∙ count
+counts status.SinkFault b c n m k count end = (no-line [] end.shown m k end.whole).1 ∙ count
+counts s b c n m k count end = ⊎_elim (λ h. inl (h.1 ∙ count)) (λ h. inr (h.3 ∙ ap next_count count)) end.whole

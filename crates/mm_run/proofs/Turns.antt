@@ -1,5 +1,5 @@
 -- A run goes on turn by turn.
-use Rattle.std.proofs.Common.{inl, inr, ⊎_elim, ◌≡◌, ℕ, ◌+◌, Bool, true, false, List, [], ◌∷◌, ◌++◌, length, take, refl, ap, sym, subst, ◌∙◌, arith, length-append, append_assoc, append-nil, None, Some, Ok, Err}
+use Rattle.std.proofs.Common.{inl, inr, ⊎_elim, ◌≡◌, ℕ, ◌+◌, ◌≤◌, Bool, true, false, List, [], ◌∷◌, ◌++◌, length, take, refl, ap, sym, subst, ◌∙◌, arith, length-append, append_assoc, append-nil, None, Some, Ok, Err}
 use Rattle.std.specs.Prelude.{nat_lt}
 use Rattle.std.proofs.Math.Seq.{take-append-add}
 use Rattle.std.proofs.lemmas.List.{take_all}
@@ -16,8 +16,11 @@ use Rattle.mm_run.specs.declared.status.Status.TheVariants as status
 use Rattle.mm_run.specs.Forms.{Form, quits}
 use Rattle.mm_run.specs.Commands.{commands, all_commands}
 use Rattle.mm_run.specs.Answers.{Answers, AnswersForm, Replies}
-use Rattle.mm_run.specs.Step.{Cuts, WentCommand, WentLast, WentQuit, WentRest}
-use Rattle.mm_run.specs.Run.{State, HasQuit, HasNoQuit, Closed, Answered, Turned, All, First, Started, Filled, Served, GivesAnswer}
+use Rattle.mm_run.specs.Step.{Cuts, WentCommand, WentLast, WentQuit, WentRest, WentSome}
+use Rattle.mm_run.specs.Steps.{cost, next_cost, Costs, unfinished_cost}
+use Rattle.mm_run.specs.Run.{AreAnswered}
+use Rattle.mm_run.specs.Statuses.{source_faults_after}
+use Rattle.mm_run.specs.Inside.Turning.{State, Moved, Answered, Turned, HasStopped, IsFront, IsPossible, Served, GivesAnswer}
 use Rattle.mm_run.proofs.Going.{went-more}
 
 -- what the rest of a known input is
@@ -101,20 +104,30 @@ pub append_known-nil : (a : Option (List ℕ)) → append_known a [] ≡ a
 append_known-nil None = refl
 append_known-nil (Some bs) = ap (λ l. Some l) (append-nil bs)
 
--- two answers, one after the other
-answered-more : {a b c : State} {xs ys : List Command} → Answered a b xs → Answered b c ys → Answered a c (xs ++ ys)
-answered-more {a} {b} {c} {xs} {ys} first second = record {
-  replies = first.replies ++ second.replies;
-  written = second.written ∙ ap (λ w. append_known w second.replies) first.written ∙ append_known-twice a.written first.replies second.replies;
-  all = replies-more a.forest b.forest c.forest xs ys first.replies second.replies first.all second.all;
-}
+-- the steps of one command
+costs-one : (f g : Trees Labelled) (command : Command) (reply : List ℕ) → Answers f command reply g → Costs f (command ∷ []) g (cost f command + 0)
+costs-one f g command reply answers = (reply, g, 0, answers, (refl, refl), refl)
 
 -- nothing was answered
-pub answered-none : {a b : State} → b.written ≡ a.written → b.forest ≡ a.forest → Answered a b []
-answered-none {a} {b} w f = record { replies = []; written = w ∙ sym (append_known-nil a.written); all = (refl, f) }
+pub answered-none : {a b : State} → b.written ≡ a.written → b.forest ≡ a.forest → b.steps ≤ a.steps → Answered a b []
+answered-none {a} {b} w f none = record {
+  replies = [];
+  written = w ∙ sym (append_known-nil a.written);
+  all = (refl, f);
+  total = 0;
+  costs = (f, refl);
+  steps = omega (arith, none);
+}
 
-pub answered-one : {a b : State} (command : Command) → GivesAnswer command a.written b.written a.forest b.forest (Ok tt) → Answered a b (command ∷ [])
-answered-one {a} {b} command h = record { replies = h.0; written = h.2; all = replies-one a.forest b.forest command h.0 h.1 }
+pub answered-one : {a b : State} (command : Command) → GivesAnswer command a.written b.written a.forest b.forest (Ok tt) → b.steps ≤ a.steps + cost a.forest command → Answered a b (command ∷ [])
+answered-one {a} {b} command h most = record {
+  replies = h.0;
+  written = h.2;
+  all = replies-one a.forest b.forest command h.0 h.1;
+  total = cost a.forest command + 0;
+  costs = costs-one a.forest b.forest command h.0 h.1;
+  steps = omega (arith, most);
+}
 
 quit-form : (f : Form) (payload : Payload) (forest : Trees Labelled) → quits f ≡ true → AnswersForm f payload forest [] forest
 quit-form None payload forest quit = cc
@@ -132,12 +145,17 @@ unfolding Answers
 quit-answers command forest quit = quit-form command.form command.payload forest quit
 
 -- the line that ends the run has no reply
-pub answered-quit : {a b : State} (command : Command) → quits command.form ≡ true → b.written ≡ a.written → b.forest ≡ a.forest → Answered a b (command ∷ [])
-answered-quit {a} {b} command quit w f = record {
-  replies = [];
-  written = w ∙ sym (append_known-nil a.written);
-  all = subst (λ (g : Trees Labelled). Replies a.forest (command ∷ []) [] g) (sym f) (replies-one a.forest a.forest command [] (quit-answers command a.forest quit));
-}
+pub answered-quit : {a b : State} (command : Command) → quits command.form ≡ true → b.written ≡ a.written → b.forest ≡ a.forest → b.steps ≤ a.steps → Answered a b (command ∷ [])
+answered-quit {a} {b} command quit w f none =
+    let answers : Answers a.forest command [] b.forest = subst (λ (g : Trees Labelled). Answers a.forest command [] g) (sym f) (quit-answers command a.forest quit) in
+    record {
+      replies = [];
+      written = w ∙ sym (append_known-nil a.written);
+      all = replies-one a.forest b.forest command [] answers;
+      total = cost a.forest command + 0;
+      costs = costs-one a.forest b.forest command [] answers;
+      steps = omega (arith, none);
+    }
 
 -- what one turn leaves of the commands
 pub rest-of : {a b : State} (turned : Turned a b) (bytes : List ℕ) → a.rest ≡ Some bytes
@@ -146,116 +164,156 @@ rest-of {a} {b} turned bytes known =
     let k = known-rest a.rest b.rest turned.got bytes turned.moved.bytes known in
     (k.0, k.1, ap (all_commands a.reach) k.2 ∙ all-after turned.got k.0 a.reach b.reach turned.moved.count _ turned.cuts)
 
-all-more : {a b c : State} → Turned a b → All b c → All a c
-all-more {a} {b} {c} turned all = record {
-  each = λ bytes known.
-      let r = rest-of turned bytes known in
-      subst (Answered a c) (sym r.2) (answered-more turned.answered (all.each r.0 r.1));
-}
+which-more : (s : Status) (a b c : State) (turned : Turned a b) (got : List ℕ) (answered others : List Command)
+    → HasStopped c answered s → AreAnswered got s answered others → AreAnswered (turned.got ++ got) s (turned.command ∷ answered) others
+which-more status.Ok a b c turned got answered others stopped which = which
+which-more status.Usage a b c turned got answered others stopped which = absurd stopped
+which-more status.SourceFault a b c turned got answered others stopped which = ap (λ l. turned.command ∷ l) which ∙ sym (turned.cuts.each got false)
+which-more s a b c turned got answered others stopped which = which
 
-closed-more : {a b c : State} → Turned a b → Closed b c → Closed a c
-closed-more {a} {b} {c} turned closed = record {
-  got = turned.got ++ closed.got;
-  moved = went-more turned.moved closed.moved;
-  why = ⊎_elim (λ end. inl end) (λ quit. inr (λ bytes known. let r = rest-of turned bytes known in subst HasQuit (sym r.2) (inr (quit r.0 r.1)))) closed.why;
-}
+stopped-more : (s : Status) (a b c : State) (turned : Turned a b) (answered : List Command) → HasStopped c answered s → HasStopped c (turned.command ∷ answered) s
+stopped-more status.Ok a b c turned answered stopped = ⊎_elim (λ end. inl end) (λ quit. inr (inr quit)) stopped
+stopped-more status.Usage a b c turned answered stopped = absurd stopped
+stopped-more status.TooMuchInput a b c turned answered stopped = (stopped.0, (turned.goes_on, stopped.1))
+stopped-more s a b c turned answered stopped = tt
 
-filled-more : {a b c : State} → Turned a b → Filled b c → Filled a c
-filled-more {a} {b} {c} turned filled = record {
-  got = turned.got ++ filled.got;
-  moved = went-more turned.moved filled.moved;
-  full = filled.full;
-  goes_on = λ bytes known. let r = rest-of turned bytes known in subst HasNoQuit (sym r.2) (turned.goes_on, filled.goes_on r.0 r.1);
-}
-
--- the first commands, after one that was answered
-first-more : {a b : State} (turned : Turned a b) (rest : List Command) (cs : List Command) (replies : List ℕ) → cs ≡ turned.command ∷ rest → First b.forest rest replies → First a.forest cs (turned.answered.replies ++ replies)
-first-more {a} {b} turned rest cs replies split first = record {
-  answered = turned.command ∷ first.answered;
-  others = first.others;
-  split = split ∙ ap (λ l. turned.command ∷ l) first.split;
-  after = first.after;
-  all = replies-more a.forest b.forest first.after (turned.command ∷ []) first.answered turned.answered.replies replies turned.answered.all first.all;
-}
-
--- The input ended, with these commands.
-pub ended-last : {a b : State} {cut : List Command} → WentLast None a.rest b.rest a.reach b.reach cut → Answered a b cut → All a b × Closed a b
-ended-last {a} {b} last answered = (
-  record { each = λ bytes known. subst (Answered a b) (sym (all-last last bytes known)) answered },
-  record { got = last.got; moved = last.went; why = inl (last.end, last.few) },
-)
-
--- The line came that ends the run.
-pub ended-quit : {a b : State} (w : WentQuit None a.rest b.rest a.reach b.reach) → Answered a b (w.command ∷ []) → All a b × Closed a b
-ended-quit {a} {b} w answered = (
-  record { each = λ bytes known. subst (Answered a b) (sym (all-quit w bytes known)) answered },
-  record { got = w.got; moved = w.went; why = inr (λ bytes known. subst HasQuit (sym (all-quit w bytes known)) (inl w.quit)) },
-)
-
--- As many bytes were taken as count, and the rest of them is no whole command.
-pub ended-full : {a b : State} → WentRest None a.rest b.rest a.reach b.reach → b.reach ≡ 0 → Answered a b [] → All a b × Filled a b
-ended-full {a} {b} w full answered = (
-  record { each = λ bytes known. subst (Answered a b) (sym (all-full w full bytes known)) answered },
-  record { got = w.got; moved = w.went; full = full; goes_on = λ bytes known. subst HasNoQuit (sym (all-full w full bytes known)) tt },
-)
-
--- The source failed before a command was whole.
-pub ended-broken : {a b : State} → WentRest None a.rest b.rest a.reach b.reach → Answered a b [] → Served a b status.SourceFault
-ended-broken {a} {b} w answered = record { got = w.got; moved = w.went; answered = subst (Answered a b) (sym w.none) answered }
+front-more : (s : Status) (first replies shown : List ℕ) → IsFront s replies shown → IsFront s (first ++ replies) (first ++ shown)
+front-more status.SinkFault first replies shown h =
+    (length first + h.0, omega (arith, h.1, length-append first replies), ap (λ l. first ++ l) h.2 ∙ sym (take-append-add first replies h.0))
+front-more s first replies shown h = ap (λ l. first ++ l) h
 
 -- A turn, and then the rest of the run.
 pub goes_on : (a b c : State) (s : Status) → Turned a b → Served b c s → Served a c s
-goes_on a b c status.Ok turned served = (all-more turned served.0, closed-more turned served.1)
-goes_on a b c status.Usage turned served = served
-goes_on a b c status.DiskFault turned served = served
-goes_on a b c (status.Damaged damage) turned served = served
-goes_on a b c status.TooMuchInput turned served = (all-more turned served.0, filled-more turned served.1)
-goes_on a b c status.SourceFault turned served = record {
-  got = turned.got ++ served.got;
-  moved = went-more turned.moved served.moved;
-  answered = subst (Answered a c) (sym (turned.cuts.each served.got false)) (answered-more turned.answered served.answered);
-}
-goes_on a b c status.SinkFault turned served = record {
+goes_on a b c s turned served = record {
+  possible = served.possible;
   each = λ bytes known.
       let r = rest-of turned bytes known in
-      let h = served.each r.0 r.1 in (
-        turned.answered.replies ++ h.0,
-        first-more turned (all_commands b.reach r.0) (all_commands a.reach bytes) h.0 r.2 h.1,
-        length turned.answered.replies + h.2,
-        h.3 ∙ ap (λ w. append_known w (take h.2 h.0)) turned.answered.written ∙ append_known-twice a.written turned.answered.replies (take h.2 h.0)
-            ∙ ap (append_known a.written) (sym (take-append-add turned.answered.replies h.0 h.2)),
-      );
+      let h = served.each r.0 r.1 in
+      let costs = turned.answered.costs in
+      record {
+        got = turned.got ++ h.got;
+        moved = went-more turned.moved h.moved;
+        answered = turned.command ∷ h.answered;
+        others = h.others;
+        split = r.2 ∙ ap (λ l. turned.command ∷ l) h.split;
+        which = which-more s a b c turned h.got h.answered h.others h.stopped h.which;
+        stopped = stopped-more s a b c turned h.answered h.stopped;
+        replies = turned.answered.replies ++ h.replies;
+        after = h.after;
+        answers = replies-more a.forest b.forest h.after (turned.command ∷ []) h.answered turned.answered.replies h.replies turned.answered.all h.answers;
+        shown = turned.answered.replies ++ h.shown;
+        is_front = front-more s turned.answered.replies h.replies h.shown h.is_front;
+        written = h.written ∙ ap (λ w. append_known w h.shown) turned.answered.written ∙ append_known-twice a.written turned.answered.replies h.shown;
+        total = cost a.forest turned.command + h.total;
+        costs = (costs.0, costs.1, h.total, costs.3, subst (λ (f : Trees Labelled). Costs f h.answered h.after h.total) costs.4.0 h.costs, refl);
+        steps = omega (arith, turned.answered.steps, h.steps, costs.4.1, costs.5);
+      };
 }
-goes_on a b c status.Memory turned served = record {
-  each = λ bytes known.
-      let r = rest-of turned bytes known in
-      let h = served.each r.0 r.1 in (
-        turned.answered.replies ++ h.0,
-        first-more turned (all_commands b.reach r.0) (all_commands a.reach bytes) h.0 r.2 h.1,
-        h.2 ∙ ap (λ w. append_known w h.0) turned.answered.written ∙ append_known-twice a.written turned.answered.replies h.0,
-      );
+
+-- All commands were answered.
+served-all : {a b : State} {cut : List Command} (s : Status) (got : List ℕ) → Moved a b got → Answered a b cut → ((replies : List ℕ) → IsFront s replies replies)
+    → ((bytes : List ℕ) → a.rest ≡ Some bytes → all_commands a.reach bytes ≡ cut) → AreAnswered got s cut [] → HasStopped b cut s → IsPossible s → Served a b s
+served-all {a} {b} {cut} s got moved answered front all which stopped possible = record {
+  possible = possible;
+  each = λ bytes known. record {
+    got = got;
+    moved = moved;
+    answered = cut;
+    others = [];
+    split = all bytes known ∙ sym (append-nil cut);
+    which = which;
+    stopped = stopped;
+    replies = answered.replies;
+    after = b.forest;
+    answers = answered.all;
+    shown = answered.replies;
+    is_front = front answered.replies;
+    written = answered.written;
+    total = answered.total;
+    costs = answered.costs;
+    steps = omega (arith, answered.steps);
+  };
 }
+
+-- The input ended, with these commands.
+pub ended-last : {a b : State} {cut : List Command} → WentLast None a.rest b.rest a.reach b.reach cut → Answered a b cut → Served a b status.Ok
+ended-last last answered = served-all status.Ok last.got last.went answered (λ replies. refl) (all-last last) refl (inl (last.end, last.few)) tt
+
+-- The line came that ends the run.
+pub ended-quit : {a b : State} (w : WentQuit None a.rest b.rest a.reach b.reach) → Answered a b (w.command ∷ []) → Served a b status.Ok
+ended-quit w answered = served-all status.Ok w.got w.went answered (λ replies. refl) (all-quit w) refl (inr (inl w.quit)) tt
+
+-- As many bytes were taken as count, and the rest of them is no whole command.
+pub ended-full : {a b : State} → WentRest None a.rest b.rest a.reach b.reach → b.reach ≡ 0 → Answered a b [] → Served a b status.TooMuchInput
+ended-full w full answered = served-all status.TooMuchInput w.got w.went answered (λ replies. refl) (all-full w full) refl (full, tt) tt
 
 -- none of the commands was answered
-first-none : (forest : Trees Labelled) (cs : List Command) → First forest cs []
-first-none forest cs = record { answered = []; others = cs; split = refl; after = forest; all = (refl, refl) }
-
--- An answer failed.
-pub failed : (a b : State) (command : Command) (s : Status) → ((bytes : List ℕ) → a.rest ≡ Some bytes → (others : List Command) × (all_commands a.reach bytes ≡ command ∷ others))
-    → GivesAnswer command a.written b.written a.forest b.forest (Err s) → Served a b s
-failed a b command status.SinkFault next h = record {
-  each = λ bytes known.
-      let n = next bytes known in
-      (h.0, record { answered = command ∷ []; others = n.0; split = n.1; after = h.1; all = replies-one a.forest h.1 command h.0 h.2 }, h.3, h.4);
+served-none : {a b : State} (s : Status) (got : List ℕ) → Moved a b got → b.written ≡ a.written
+    → ((bytes : List ℕ) → a.rest ≡ Some bytes → b.steps ≤ a.steps + unfinished_cost s a.forest (all_commands a.reach bytes))
+    → IsFront s [] [] → ((others : List Command) → AreAnswered got s [] others) → HasStopped b [] s → IsPossible s → Served a b s
+served-none {a} {b} s got moved w most front which stopped possible = record {
+  possible = possible;
+  each = λ bytes known. record {
+    got = got;
+    moved = moved;
+    answered = [];
+    others = all_commands a.reach bytes;
+    split = refl;
+    which = which (all_commands a.reach bytes);
+    stopped = stopped;
+    replies = [];
+    after = a.forest;
+    answers = (refl, refl);
+    shown = [];
+    is_front = front;
+    written = w ∙ sym (append_known-nil a.written);
+    total = 0;
+    costs = (refl, refl);
+    steps = omega (arith, most bytes known);
+  };
 }
-failed a b command status.Memory next h = record { each = λ bytes known. ([], first-none a.forest (all_commands a.reach bytes), h ∙ sym (append_known-nil a.written)) }
-failed a b command status.Ok next h = absurd h
-failed a b command status.Usage next h = absurd h
-failed a b command status.SourceFault next h = absurd h
-failed a b command status.DiskFault next h = absurd h
-failed a b command (status.Damaged damage) next h = absurd h
-failed a b command status.TooMuchInput next h = absurd h
+
+-- The source failed before a command was whole.
+pub ended-broken : {a b : State} → WentRest None a.rest b.rest a.reach b.reach → b.written ≡ a.written → b.steps ≤ a.steps → Served a b status.SourceFault
+ended-broken w same most = served-none status.SourceFault w.got w.went same (λ bytes known. omega (arith, most)) refl (λ others. sym w.none) tt tt
 
 -- Memory ran out before anything was answered.
-pub started-none : {a b : State} → b.written ≡ a.written → Started a b
-started-none {a} {b} w = record { each = λ bytes known. ([], first-none a.forest (all_commands a.reach bytes), w ∙ sym (append_known-nil a.written)) }
+pub started-none : {a b : State} → WentSome a.rest b.rest a.reach b.reach → b.written ≡ a.written → b.steps ≤ a.steps → Served a b status.Memory
+started-none w same most = served-none status.Memory w.got w.went same (λ bytes known. omega (arith, most)) refl (λ others. tt) tt tt
+
+-- An answer failed.
+pub failed : (a b : State) (command : Command) (s : Status) (got : List ℕ) → Moved a b got
+    → ((bytes : List ℕ) → a.rest ≡ Some bytes → (others : List Command) × (all_commands a.reach bytes ≡ command ∷ others))
+    → b.steps ≤ a.steps + cost a.forest command → GivesAnswer command a.written b.written a.forest b.forest (Err s) → Served a b s
+failed a b command status.SinkFault got moved next most h = record {
+  possible = tt;
+  each = λ bytes known.
+      let n = next bytes known in
+      record {
+        got = got;
+        moved = moved;
+        answered = command ∷ [];
+        others = n.0;
+        split = n.1;
+        which = tt;
+        stopped = tt;
+        replies = h.0;
+        after = h.1;
+        answers = replies-one a.forest h.1 command h.0 h.2;
+        shown = take h.3 h.0;
+        is_front = (h.3, h.4, refl);
+        written = h.5;
+        total = cost a.forest command + 0;
+        costs = costs-one a.forest h.1 command h.0 h.2;
+        steps = omega (arith, most);
+      };
+}
+failed a b command status.Memory got moved next most h =
+    served-none status.Memory got moved h (λ bytes known. let n = next bytes known in omega (arith, most, ap (next_cost a.forest) n.1)) refl (λ others. tt) tt tt
+failed a b command s got moved next most h = absurd h
+
+-- an answer fails by the sink or for want of memory
+pub source-still : (command : Command) (old new : Option (List ℕ)) (before later : Trees Labelled) (s : Status) (n : ℕ) → GivesAnswer command old new before later (Err s) → source_faults_after s n ≡ n
+source-still command old new before later status.SinkFault n h = refl
+source-still command old new before later status.Memory n h = refl
+source-still command old new before later s n h = absurd h

@@ -66,13 +66,13 @@ pub record Planned : Type 0 where
   pub edited : Tree Kind → Trees Labelled
 
 -- the first of two causes
-abbrev pub first : Option Refusal → Option Refusal → Option Refusal
-first None second = second
-first (Some r) second = Some r
+abbrev pub first_cause : Option Refusal → Option Refusal → Option Refusal
+first_cause None second = second
+first_cause (Some r) second = Some r
 
 -- with a tree: it has too many levels, or what the forest says
 abbrev pub tree_refusal : Planned → Tree Kind → Option Refusal
-tree_refusal plan t = first plan.target (if nat_le (levels (one t)) 200 then plan.refusal t else Some refusal.Deep)
+tree_refusal plan t = first_cause plan.target (if nat_le (levels (one t)) 200 then plan.refusal t else Some refusal.Deep)
 
 abbrev pub RefusesFirst : Option Refusal → Refusal → Trees Labelled → List ℕ → Trees Labelled → Type 0
 RefusesFirst None other forest reply after = Refuses forest other reply after

@@ -1,5 +1,5 @@
 -- The commands of an input.
-use Rattle.std.specs.Prelude.{ℕ, Bool, if◌then◌else◌, nat_lt, List, [], ◌∷◌, ◌++◌, length, take, Some, None}
+use Rattle.std.specs.Prelude.{◌≡◌, ◌⊎◌, ℕ, Bool, true, false, if◌then◌else◌, nat_lt, List, [], ◌∷◌, ◌++◌, length, take, Some, None}
 use Rattle.std.specs.declared.option.Option.{Option}
 use Rattle.mm_run.specs.declared.command.Command.{Command}
 use Rattle.mm_run.specs.declared.command.Payload.TheVariants.{Nothing, Cut}
@@ -31,3 +31,13 @@ commands bytes ended = grouped None ended (lines bytes ended)
 -- The commands of an input of which only so many bytes count.
 abbrev pub all_commands : ℕ → List ℕ → List Command
 all_commands reach bytes = commands (take reach bytes) (nat_lt (length bytes) reach)
+
+-- one of these ends the run
+abbrev pub HasQuit : List Command → Type 0
+HasQuit [] = ⊥
+HasQuit (command ∷ commands) = (quits command.form ≡ true) ⊎ HasQuit commands
+
+-- none of these ends the run
+abbrev pub HasNoQuit : List Command → Type 0
+HasNoQuit [] = Unit {0}
+HasNoQuit (command ∷ commands) = (quits command.form ≡ false) × HasNoQuit commands

@@ -27,8 +27,8 @@ Supplies before after n m held (Ok End) = Went before after n m [] × IsAtEnd af
 Supplies before after n m held (Ok Full) = Went before after n m [] × (m ≡ 0)
 Supplies before after n m held (Err e) = Went before after n m [] × (held ≡ [])
 
--- What was held up to the first line feed went behind the text, and the line feed too (true), or all that was held, which has none (false).
+-- What was held up to the first line feed went behind the text, and the line feed too (true), or all that was held, which has none (false). Without memory nothing went.
 abbrev pub TakesLine : {E : Type 0} → (held held' text text' : List ℕ) → ℕ → Result Bool E → Type 0
 TakesLine held held' text text' limit (Ok true) = (part : List ℕ) × (held ≡ part ++ 10 ∷ held') × HasNoLineFeed part × (text' ≡ take limit (text ++ part))
 TakesLine held held' text text' limit (Ok false) = (held' ≡ []) × HasNoLineFeed held × (text' ≡ take limit (text ++ held))
-TakesLine held held' text text' limit (Err e) = Unit {0}
+TakesLine held held' text text' limit (Err e) = held' ≡ held

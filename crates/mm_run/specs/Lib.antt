@@ -6,7 +6,10 @@ pub mod Buffer
 pub mod Input
 pub mod Step
 pub mod Answers
+pub mod Settled
 pub mod Edits
 pub mod Told
 pub mod Steps
+pub mod Statuses
 pub mod Run
+pub mod Inside

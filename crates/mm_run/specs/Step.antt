@@ -2,7 +2,7 @@
 use Rattle.std.specs.Prelude.{◌≡◌, ℕ, ◌+◌, ◌<◌, ◌≤◌, Bool, true, false, if◌then◌else◌, List, [], ◌∷◌, ◌++◌, length, take, Result, Ok, Err, None}
 use Rattle.std.specs.declared.option.Option.{Option}
 use Rattle.std.specs.Io.KnownBytes.{IsAtEnd}
-use Rattle.mm_host.specs.Causes.{Rose}
+use Rattle.mm_host.specs.Causes.{next_count}
 use Rattle.mm_run.specs.declared.command.Command.{Command}
 use Rattle.mm_run.specs.declared.command.Payload.{Payload}
 use Rattle.mm_run.specs.declared.command.Payload.TheVariants.{Nothing, Cut}
@@ -20,10 +20,16 @@ use Rattle.mm_run.specs.Payloads.{closes, unstopped}
 use Rattle.mm_run.specs.Commands.{Begun, grouped}
 use Rattle.mm_run.specs.Input.{Went}
 
--- a count never falls, and the source's fault comes only where it rose
-pub record HasSourceCause {T : Type 0} (before now : ℕ) (result : Result T ReadError) : Type 0 where
-  pub later : before ≤ now
-  pub failed : result ≡ Err Source → Rose before now
+-- how often the source has failed after a call, of how often before: once more only where its fault is the answer
+abbrev pub faults_after : {T : Type 0} → Result T ReadError → ℕ → ℕ
+faults_after (Ok x) n = n
+faults_after (Err Source) n = next_count n
+faults_after (Err Memory) n = n
+
+-- bytes went
+pub record WentSome (before after : Option (List ℕ)) (n m : ℕ) : Type 0 where
+  pub got : List ℕ
+  pub went : Went before after n m got
 
 -- bytes without a line feed went
 pub record WentPart (before after : Option (List ℕ)) (n m : ℕ) : Type 0 where
@@ -42,7 +48,7 @@ GivesLine before after n m text text' limit (Ok ending.Feed) = (line : List ℕ)
 GivesLine before after n m text text' limit (Ok ending.Input) = (line : List ℕ) × Went before after n m line × KeepsLine text text' limit line × IsAtEnd after × (0 < m)
 GivesLine before after n m text text' limit (Ok ending.Full) = WentPart before after n m × (m ≡ 0)
 GivesLine before after n m text text' limit (Err Source) = WentPart before after n m
-GivesLine before after n m text text' limit (Err Memory) = Unit {0}
+GivesLine before after n m text text' limit (Err Memory) = WentSome before after n m
 
 -- A line of a payload went, which closes the payload or doesn't.
 pub record WentRow (before after : Option (List ℕ)) (n m : ℕ) (closing : Bool) : Type 0 where
@@ -75,7 +81,7 @@ GivesRow before after n m payload payload' limit (Ok row.LastClosed) = WentLastR
 GivesRow before after n m payload payload' limit (Ok row.Cut) = WentLastRow before after n m false
 GivesRow before after n m payload payload' limit (Ok row.Full) = WentPart before after n m × (m ≡ 0)
 GivesRow before after n m payload payload' limit (Err Source) = WentPart before after n m
-GivesRow before after n m payload payload' limit (Err Memory) = Unit {0}
+GivesRow before after n m payload payload' limit (Err Memory) = WentSome before after n m
 
 -- Whatever follows these bytes, they are these commands.
 pub record Cuts (start : Option Begun) (got : List ℕ) (cut : List Command) : Type 0 where
@@ -118,7 +124,7 @@ GivesNext start before after n m (Ok next.Quit) = WentQuit start before after n 
 GivesNext start before after n m (Ok next.End) = WentLast start before after n m []
 GivesNext start before after n m (Ok next.Full) = WentRest start before after n m × (m ≡ 0)
 GivesNext start before after n m (Err Source) = WentRest start before after n m
-GivesNext start before after n m (Err Memory) = Unit {0}
+GivesNext start before after n m (Err Memory) = WentSome before after n m
 
 -- what has a line that the end of the input ends
 abbrev pub last_payload : Bool → Payload

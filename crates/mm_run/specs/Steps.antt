@@ -1,5 +1,5 @@
 -- How many steps commands may take. A step is a look-up in a keyword list.
-use Rattle.std.specs.Prelude.{◌≡◌, ℕ, ℤ, ◌+◌, ◌≤◌, List, [], ◌∷◌, ◌++◌, Some, None}
+use Rattle.std.specs.Prelude.{◌≡◌, ℕ, ℤ, ◌+◌, List, [], ◌∷◌, Some, None}
 use Rattle.std.specs.declared.option.Option.{Option}
 use Rattle.mm_words.specs.Words.{query_words}
 use Rattle.mm_words.specs.Refusals.{query_refusal}
@@ -20,6 +20,8 @@ use Rattle.mm_command.specs.declared.line.Find.TheVariants as find
 use Rattle.mm_run.specs.Forms.{Form}
 use Rattle.mm_run.specs.Answers.{Answers, roots}
 use Rattle.mm_run.specs.declared.command.Command.{Command}
+use Rattle.mm_run.specs.declared.status.Status.{Status}
+use Rattle.mm_run.specs.declared.status.Status.TheVariants as status
 
 -- of the fragment of the node that has a label, if there is one
 abbrev pub fragment_cost : List (List ℕ) → Option (Tree Labelled) → ℕ
@@ -84,12 +86,7 @@ Costs forest [] after n = (after ≡ forest) × (n ≡ 0)
 Costs forest (command ∷ commands) after n =
     (reply : List ℕ) × (next : Trees Labelled) × (m : ℕ) × Answers forest command reply next × Costs next commands after m × (n ≡ cost forest command + m)
 
--- The steps between two counts are at most those of the first commands, and of one more that was at work.
-pub record Spends (forest : Trees Labelled) (commands : List Command) (before now : ℕ) : Type 0 where
-  pub answered : List Command
-  pub others : List Command
-  pub split : commands ≡ answered ++ others
-  pub after : Trees Labelled
-  pub total : ℕ
-  pub all : Costs forest answered after total
-  pub most : now ≤ before + (total + next_cost after others)
+-- of the next command, where memory ran out: it was at work then
+abbrev pub unfinished_cost : Status → Trees Labelled → List Command → ℕ
+unfinished_cost status.Memory after others = next_cost after others
+unfinished_cost s after others = 0

@@ -4,6 +4,7 @@ ghost use Rattle.mm_tree.specs.Trees.{Trees};
 ghost use Rattle.mm_tree.specs.Numbering.{Labelled};
 ghost use Rattle.mm_run.specs.declared.command.Command.{Command};
 ghost use Rattle.mm_run.specs.Answers.{Replies};
+ghost use Rattle.mm_run.specs.Settled.{IsTreeOrNone, IsLabelOrNone, HasReply};
 
 use mm_label::laws::one_text;
 use mm_xml::laws::one_tree;
@@ -16,3 +17,9 @@ pub fn one_reply()
     one_tree();
     one_text();
 }
+
+/// In each forest each command has a reply, if it is settled which bytes spell a tree and which texts
+/// are labels, as the readers of both settle it.
+pub fn some_reply()
+    ensures { ((bytes : List ℕ) → IsTreeOrNone bytes) → ((text : List ℕ) → IsLabelOrNone text) → (forest : Trees Labelled) (command : Command) → HasReply forest command }
+{}

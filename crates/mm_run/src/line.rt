@@ -2,7 +2,7 @@
 ghost use Rattle.std.specs.Prelude.{◌≡◌, ◌≤◌, [], Err, vec_len};
 ghost use Rattle.mm_run.specs.declared.line.ReadError.TheVariants.{Source};
 ghost use Rattle.mm_run.specs.Input.{rest, reach};
-ghost use Rattle.mm_run.specs.Step.{HasSourceCause, GivesLine};
+ghost use Rattle.mm_run.specs.Step.{faults_after, GivesLine};
 
 use crate::buffer::{Buffer, Supply, refill};
 use mm_host::Source;
@@ -39,7 +39,7 @@ pub fn read_line<S: Source>(
     ensures bound { vec_len text.new ≤ limit }
     ensures grows { vec_len text.old ≤ vec_len text.new }
     ensures none { result ≡ Err Source → buffer.new.held ≡ [] }
-    ensures cause { HasSourceCause (S.fault_count source.old) (S.fault_count source.new) result }
+    ensures faults { S.fault_count source.new ≡ faults_after result (S.fault_count source.old) }
 {
     'parts: loop {
         match refill(source, buffer) {

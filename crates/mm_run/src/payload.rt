@@ -4,7 +4,7 @@ ghost use Rattle.mm_run.specs.declared.line.ReadError.TheVariants.{Source};
 ghost use Rattle.mm_run.specs.Input.{rest, reach};
 ghost use Rattle.mm_run.specs.Forms.{quits};
 ghost use Rattle.mm_run.specs.Payloads.{closes, unstopped, joined, ended_rows, payload_of, payload_limit};
-ghost use Rattle.mm_run.specs.Step.{HasSourceCause, EndsRow, GivesRow, GivesNext};
+ghost use Rattle.mm_run.specs.Step.{faults_after, EndsRow, GivesRow, GivesNext};
 
 use crate::buffer::Buffer;
 use crate::command::{Body, Command, PAYLOAD_LIMIT, Payload};
@@ -87,7 +87,7 @@ fn next_row<S: Source>(
     requires small { limit ≤ 2 ^ 24 }
     ensures row { GivesRow (rest (S.left source.old) buffer.old) (rest (S.left source.new) buffer.new) (reach buffer.old) (reach buffer.new) payload.old.items payload.new.items limit result }
     ensures none { result ≡ Err Source → buffer.new.held ≡ [] }
-    ensures cause { HasSourceCause (S.fault_count source.old) (S.fault_count source.new) result }
+    ensures faults { S.fault_count source.new ≡ faults_after result (S.fault_count source.old) }
 {
     let start = payload.len();
     // Three bytes of a line tell one that ends the payload from one that doesn't.
@@ -135,7 +135,7 @@ fn skip_payload<S: Source>(
     ensures next { (rows : List (List ℕ)) → payload_limit < length (joined rows)
         → GivesNext (Some (record { form = form; rows = rows })) (rest (S.left source.old) buffer.old) (rest (S.left source.new) buffer.new) (reach buffer.old) (reach buffer.new) result }
     ensures none { result ≡ Err Source → buffer.new.held ≡ [] }
-    ensures cause { HasSourceCause (S.fault_count source.old) (S.fault_count source.new) result }
+    ensures faults { S.fault_count source.new ≡ faults_after result (S.fault_count source.old) }
 {
     let mut row = Vec::new(alloc);
     'rows: loop {
@@ -171,7 +171,7 @@ pub fn next_payload<S: Source>(
     requires { quits form ≡ false }
     ensures next { GivesNext (Some (record { form = form; rows = [] })) (rest (S.left source.old) buffer.old) (rest (S.left source.new) buffer.new) (reach buffer.old) (reach buffer.new) result }
     ensures none { result ≡ Err Source → buffer.new.held ≡ [] }
-    ensures cause { HasSourceCause (S.fault_count source.old) (S.fault_count source.new) result }
+    ensures faults { S.fault_count source.new ≡ faults_after result (S.fault_count source.old) }
 {
     let mut payload = Vec::new(alloc);
     'rows: loop {

@@ -2,7 +2,7 @@
 ghost use Rattle.std.specs.Prelude.{◌≡◌, [], Err, None, IfOk, IfErr};
 ghost use Rattle.mm_run.specs.declared.line.ReadError.TheVariants.{Source, Memory};
 ghost use Rattle.mm_run.specs.Input.{rest, reach};
-ghost use Rattle.mm_run.specs.Step.{HasSourceCause, GivesNext, IsLast};
+ghost use Rattle.mm_run.specs.Step.{faults_after, GivesNext, IsLast};
 
 use crate::buffer::Buffer;
 use crate::command::{Command, Payload};
@@ -54,7 +54,7 @@ pub fn next_command<S: Source>(
 ) -> Result<Next, ReadError>
     ensures next { GivesNext None (rest (S.left source.old) buffer.old) (rest (S.left source.new) buffer.new) (reach buffer.old) (reach buffer.new) result }
     ensures none { result ≡ Err Source → buffer.new.held ≡ [] }
-    ensures cause { HasSourceCause (S.fault_count source.old) (S.fault_count source.new) result }
+    ensures faults { S.fault_count source.new ≡ faults_after result (S.fault_count source.old) }
 {
     let mut line = Vec::new(alloc);
     match read_line(source, buffer, &mut line, LINE_KEPT) {

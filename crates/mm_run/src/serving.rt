@@ -1,9 +1,9 @@
 // Turns and runs.
 ghost use Rattle.std.specs.Prelude.{◌≡◌, ◌≤◌, ◌+◌, [], Err};
-ghost use Rattle.mm_host.specs.Causes.{Rose};
 ghost use Rattle.mm_tree.specs.Numbering.{forest_of};
 ghost use Rattle.mm_run.specs.Input.{rest, reach};
-ghost use Rattle.mm_run.specs.Run.{State, Served, Spent, GivesTurn, EndSpends, GivesAnswer, HasCauses};
+ghost use Rattle.mm_run.specs.Statuses.{source_faults_after, sink_faults_after};
+ghost use Rattle.mm_run.specs.Inside.Turning.{State, Served, GivesTurn, GivesAnswer, status_of};
 ghost use Rattle.mm_run.specs.Steps.{cost};
 ghost use Rattle.mm_run.specs.declared.status.Status.TheVariants as status;
 
@@ -29,8 +29,7 @@ fn reply<W: Sink, L: Ledger>(
 ) -> Result<(), Status>
     ensures answer { GivesAnswer command (W.written sink.old) (W.written sink.new) (forest_of forest.old) (forest_of forest.new) result }
     ensures steps { steps.new ≤ steps.old + cost (forest_of forest.old) command }
-    ensures later { W.fault_count sink.old ≤ W.fault_count sink.new }
-    ensures cause { result ≡ Err status.SinkFault → Rose (W.fault_count sink.old) (W.fault_count sink.new) }
+    ensures sink_faults { W.fault_count sink.new ≡ sink_faults_after (status_of result) (W.fault_count sink.old) }
 {
     match answer(alloc, forest, command, steps) {
         Err(_) => Err(Status::Memory),
@@ -54,12 +53,9 @@ fn turn<S: Source, W: Sink, L: Ledger>(
         (record { rest = rest (S.left source.old) buffer.old; reach = reach buffer.old; written = W.written sink.old; forest = forest_of forest.old; steps = steps.old })
         (record { rest = rest (S.left source.new) buffer.new; reach = reach buffer.new; written = W.written sink.new; forest = forest_of forest.new; steps = steps.new })
         result }
-    ensures spent { EndSpends
-        (record { rest = rest (S.left source.old) buffer.old; reach = reach buffer.old; written = W.written sink.old; forest = forest_of forest.old; steps = steps.old })
-        (record { rest = rest (S.left source.new) buffer.new; reach = reach buffer.new; written = W.written sink.new; forest = forest_of forest.new; steps = steps.new })
-        result }
     ensures none { result ≡ Err status.SourceFault → buffer.new.held ≡ [] }
-    ensures causes { HasCauses (S.fault_count source.old) (S.fault_count source.new) (W.fault_count sink.old) (W.fault_count sink.new) result }
+    ensures source_faults { S.fault_count source.new ≡ source_faults_after (status_of result) (S.fault_count source.old) }
+    ensures sink_faults { W.fault_count sink.new ≡ sink_faults_after (status_of result) (W.fault_count sink.old) }
 {
     match next_command(alloc, source, buffer) {
         Err(ReadError::Source) => Err(Status::SourceFault),
@@ -91,14 +87,9 @@ pub fn serve<S: Source, W: Sink, L: Ledger>(
         (record { rest = rest (S.left source.old) buffer.old; reach = reach buffer.old; written = W.written sink.old; forest = forest_of forest.old; steps = steps.old })
         (record { rest = rest (S.left source.new) buffer.new; reach = reach buffer.new; written = W.written sink.new; forest = forest_of forest.new; steps = steps.new })
         result }
-    ensures spent { Spent
-        (record { rest = rest (S.left source.old) buffer.old; reach = reach buffer.old; written = W.written sink.old; forest = forest_of forest.old; steps = steps.old })
-        (record { rest = rest (S.left source.new) buffer.new; reach = reach buffer.new; written = W.written sink.new; forest = forest_of forest.new; steps = steps.new }) }
     ensures none { result ≡ status.SourceFault → buffer.new.held ≡ [] }
-    ensures source_later { S.fault_count source.old ≤ S.fault_count source.new }
-    ensures sink_later { W.fault_count sink.old ≤ W.fault_count sink.new }
-    ensures source_cause { result ≡ status.SourceFault → Rose (S.fault_count source.old) (S.fault_count source.new) }
-    ensures sink_cause { result ≡ status.SinkFault → Rose (W.fault_count sink.old) (W.fault_count sink.new) }
+    ensures source_faults { S.fault_count source.new ≡ source_faults_after result (S.fault_count source.old) }
+    ensures sink_faults { W.fault_count sink.new ≡ sink_faults_after result (W.fault_count sink.old) }
 {
     'turns: loop {
         match turn(alloc, source, buffer, sink, forest, steps) {

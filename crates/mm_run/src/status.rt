@@ -1,6 +1,6 @@
 // How a run ends.
 ghost use Rattle.std.specs.Prelude.{◌≡◌};
-ghost use Rattle.mm_run.specs.Run.{number_of, fault_line};
+ghost use Rattle.mm_run.specs.Statuses.{number_of, fault_line};
 
 use mm_host::Damage;
 
@@ -43,7 +43,7 @@ impl Status {
     }
 
     /// The line that is written last: empty where the run had no fault, or the sink failed.
-    #[tactic(auto, unfolding(crate::specs::Run::fault_line))]
+    #[tactic(auto, unfolding(crate::specs::Statuses::fault_line))]
     pub fn fault_line(&self) -> &'static str
         ensures { result.now ≡ fault_line self.now }
     {

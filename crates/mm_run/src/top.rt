@@ -1,11 +1,9 @@
 // The top call.
-ghost use Rattle.std.specs.Prelude.{◌≡◌, ◌≢◌, ◌≤◌, ◌<◌, ◌+◌, ◌^◌, ◌↔◌, ℕ, List, length, Some, []};
-ghost use Rattle.mm_host.specs.Causes.{Rose};
+ghost use Rattle.std.specs.Prelude.{◌≡◌, ◌≢◌, ◌↔◌, ℕ, List, length, Some, []};
 ghost use Rattle.mm_host.specs.declared.damage.Damage.{Damage};
-ghost use Rattle.mm_run.specs.Run.{Tells, Writes, EndsWith, fault_line, input_limit};
-ghost use Rattle.mm_tree.specs.Trees.{none};
-ghost use Rattle.mm_run.specs.Commands.{all_commands};
-ghost use Rattle.mm_run.specs.Steps.{Spends};
+ghost use Rattle.mm_run.specs.Statuses.{fault_line, source_faults_after, sink_faults_after, HasSinkFaults};
+ghost use Rattle.mm_run.specs.Run.{Streams, Runs};
+ghost use Rattle.mm_run.specs.Inside.Turning.{EndsWith};
 ghost use Rattle.mm_run.specs.declared.status.Status.TheVariants as status;
 
 use crate::buffer::Buffer;
@@ -22,8 +20,7 @@ const INPUT_LIMIT: u64 = 1 << 40;
 
 /// Writes the line of a fault. If that fails, the status stays the first fault's.
 fn write_fault<W: Sink>(sink: &mut W, status: &Status)
-    ensures line { EndsWith (W.written sink.old) (W.written sink.new) [] (fault_line status.now) (W.fault_count sink.old) (W.fault_count sink.new) }
-    ensures later { W.fault_count sink.old ≤ W.fault_count sink.new }
+    ensures { EndsWith (W.written sink.old) (W.written sink.new) (fault_line status.now) (W.fault_count sink.old) (W.fault_count sink.new) }
 {
     let line = status.fault_line();
     let _ = write_all(sink, line.as_bytes());
@@ -36,16 +33,15 @@ fn run_commands<S: Source, W: Sink, L: Ledger>(
     sink: &mut W,
     steps: &mut Steps<L>,
 ) -> Status
-    ensures steps { (bytes : List ℕ) → S.left source.old ≡ Some bytes → Spends none (all_commands input_limit bytes) steps.old steps.new }
-    ensures told { (bytes : List ℕ) → S.left source.old ≡ Some bytes
-        → Tells (S.left source.old) (S.left source.new) (W.written sink.old) (W.written sink.new) bytes result }
+    ensures runs { (bytes : List ℕ) → S.left source.old ≡ Some bytes → Runs []
+        (record { left = S.left source.old; written = W.written sink.old; sink_faults = W.fault_count sink.old; steps = steps.old })
+        (record { left = S.left source.new; written = W.written sink.new; sink_faults = W.fault_count sink.new; steps = steps.new })
+        bytes result }
     ensures usage { result ≢ status.Usage }
     ensures disk { result ≢ status.DiskFault }
     ensures damage { (damage : Damage) → result ≢ status.Damaged damage }
-    ensures source_later { S.fault_count source.old ≤ S.fault_count source.new }
-    ensures sink_later { W.fault_count sink.old ≤ W.fault_count sink.new }
-    ensures source_cause { result ≡ status.SourceFault → Rose (S.fault_count source.old) (S.fault_count source.new) }
-    ensures sink_cause { result ≡ status.SinkFault → Rose (W.fault_count sink.old) (W.fault_count sink.new) }
+    ensures source_faults { S.fault_count source.new ≡ source_faults_after result (S.fault_count source.old) }
+    ensures sink_faults { W.fault_count sink.new ≡ sink_faults_after result (W.fault_count sink.old) }
 {
     match Buffer::new(alloc, INPUT_LIMIT) {
         Err(_) => Status::Memory,
@@ -66,19 +62,18 @@ pub fn run<S: Source, W: Sink, D: Disk, L: Ledger>(
     disk: &mut D,
     steps: &mut Steps<L>,
 ) -> Status
-    ensures writes { (bytes : List ℕ) → S.left source.old ≡ Some bytes
-        → Writes (S.left source.old) (S.left source.new) (W.written sink.old) (W.written sink.new)
-        (W.fault_count sink.old) (W.fault_count sink.new) bytes result }
+    // What was read, answered, written and spent, where the source tells what it holds.
+    ensures runs { (bytes : List ℕ) → S.left source.old ≡ Some bytes → Runs (fault_line result)
+        (record { left = S.left source.old; written = W.written sink.old; sink_faults = W.fault_count sink.old; steps = steps.old })
+        (record { left = S.left source.new; written = W.written sink.new; sink_faults = W.fault_count sink.new; steps = steps.new })
+        bytes result }
 
-    // Each status has its cause.
+    // Each status has its cause, and the run ends at the first fault.
     ensures usage { (result ≡ status.Usage) ↔ (length words.now ≢ 1) }
-    ensures source_fault { result ≡ status.SourceFault → Rose (S.fault_count source.old) (S.fault_count source.new) }
-    ensures sink_fault { result ≡ status.SinkFault → Rose (W.fault_count sink.old) (W.fault_count sink.new) }
+    ensures source_faults { S.fault_count source.new ≡ source_faults_after result (S.fault_count source.old) }
+    ensures sink_faults { HasSinkFaults result (W.fault_count sink.old) (W.fault_count sink.new) }
     ensures no_disk_fault { result ≢ status.DiskFault }
     ensures no_damage { (damage : Damage) → result ≢ status.Damaged damage }
-
-    // The steps are at most those that the commands may take, each in the forest that it finds.
-    ensures steps { (bytes : List ℕ) → S.left source.old ≡ Some bytes → Spends none (all_commands input_limit bytes) steps.old steps.new }
 
     // The disk isn't called.
     ensures disk { disk.new ≡ disk.old }

@@ -1,4 +1,4 @@
-use Rattle.std.proofs.Common.{arith}
+use Rattle.std.proofs.Common.{◌∙◌, ap, arith}
 use Rattle.mm_run.proofs.Parts.{so_far-still, so_far-part, so_far-feed, taken-feed, taken-all}
 use Rattle.mm_run.proofs.line.read_line.Goals as goal
 
@@ -16,5 +16,5 @@ parts-preserved g c =
       so_far = so_far-part (so_far-still c.parts.invariant.so_far _ _ held.0) _ (taken-all _ _ _ line.0 c.in-Ok-false.ensures.room) line.1 _ line.2;
       bound = c.in-Ok-false.ensures.bound;
       grows = omega (arith, c.parts.invariant.grows, c.in-Ok-false.ensures.grows);
-      count = omega (arith, c.parts.invariant.count, c.in-Ok-Held.ensures.cause.later);
+      count = c.in-Ok-Held.ensures.cause.answered ∙ c.parts.invariant.count;
     }

@@ -43,5 +43,5 @@ rows-preserved g c =
       gathers = gathers-more c.rows.invariant.gathers added.0 _ added.1;
       few = omega arith;
       same = c.rows.invariant.same;
-      count = omega (arith, c.rows.invariant.count, c.in-Ok-Added.ensures.cause.later);
+      count = c.in-Ok-Added.ensures.faults ∙ c.rows.invariant.count;
     }

@@ -9,7 +9,7 @@ invariant-rows g l = record {
   gathers : Gathers l.fn.form (rest (g.S.Source.left l.fn.source) l.fn.buffer) (rest (g.S.Source.left l.source) l.buffer) (reach l.fn.buffer) (reach l.buffer) l.payload.items;
   few : vec_len l.payload ≤ payload_limit + 1;
   same : l.form ≡ l.fn.form;
-  count : g.S.Source.fault_count l.fn.source ≤ g.S.Source.fault_count l.source;
+  count : g.S.Source.fault_count l.source ≡ g.S.Source.fault_count l.fn.source;
 }
 
 abbrev pub decreases-rows : goal.decreases-rows

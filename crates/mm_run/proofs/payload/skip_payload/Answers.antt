@@ -1,4 +1,4 @@
-use Rattle.std.proofs.Common.{arith}
+use Rattle.std.proofs.Common.{◌∙◌, ap}
 use Rattle.mm_run.proofs.Gathering.{skips-more, skips-closed, skips-last, skips-cut, skips-full, skips-failed}
 use Rattle.mm_run.proofs.payload.skip_payload.Goals as goal
 
@@ -26,9 +26,9 @@ returns-in-Ok-Closed-clause-next g c = rw c.rows.invariant.same λ rows over.
 pub rows-preserved-in-Ok-Over : goal.rows-preserved-in-Ok-Over
 rows-preserved-in-Ok-Over g c =
     let over = rw c.in-Ok-Over.field-0-is at c.in-Ok-Over.ensures.row in
-    record { skips = skips-more c.rows.invariant.skips over.0; same = c.rows.invariant.same; count = omega (arith, c.rows.invariant.count, c.in-Ok-Over.ensures.cause.later) }
+    record { skips = skips-more c.rows.invariant.skips over.0; same = c.rows.invariant.same; count = c.in-Ok-Over.ensures.faults ∙ c.rows.invariant.count }
 
 pub rows-preserved : goal.rows-preserved
 rows-preserved g c =
     let added = rw c.in-Ok-Added.field-0-is at c.in-Ok-Added.ensures.row in
-    record { skips = skips-more c.rows.invariant.skips added.0; same = c.rows.invariant.same; count = omega (arith, c.rows.invariant.count, c.in-Ok-Added.ensures.cause.later) }
+    record { skips = skips-more c.rows.invariant.skips added.0; same = c.rows.invariant.same; count = c.in-Ok-Added.ensures.faults ∙ c.rows.invariant.count }

@@ -7,7 +7,7 @@ abbrev pub invariant-rows : goal.invariant-rows
 invariant-rows g l = record {
   skips : Skips l.fn.form (rest (g.S.Source.left l.fn.source) l.fn.buffer) (rest (g.S.Source.left l.source) l.buffer) (reach l.fn.buffer) (reach l.buffer);
   same : l.form ≡ l.fn.form;
-  count : g.S.Source.fault_count l.fn.source ≤ g.S.Source.fault_count l.source;
+  count : g.S.Source.fault_count l.source ≡ g.S.Source.fault_count l.fn.source;
 }
 
 abbrev pub decreases-rows : goal.decreases-rows

@@ -1,0 +1,114 @@
+-- Each command has a reply.
+use Rattle.std.proofs.Common.{◌≡◌, ◌⊎◌, ℕ, ℤ, Bool, true, false, cond, List, [], ◌∷◌, length, Option, None, Some, option_map, refl, inl, inr, ⊎_elim}
+use Rattle.std.specs.Prelude.{nat_lt}
+use Rattle.mm_tree.specs.declared.refusal.Refusal.{Refusal}
+use Rattle.mm_tree.specs.Trees.{Trees, Tree, one, nodes}
+use Rattle.mm_tree.specs.Numbering.{Labelled}
+use Rattle.mm_run.specs.declared.command.Command.{Command}
+use Rattle.mm_command.specs.declared.line.Line.{Line}
+use Rattle.mm_command.specs.declared.line.Line.TheVariants as line
+use Rattle.mm_run.specs.Forms.{Form}
+use Rattle.mm_run.specs.declared.command.Payload.{Payload}
+use Rattle.mm_run.specs.declared.command.Payload.TheVariants as payload
+use Rattle.mm_run.specs.Answers.{Refuses, Shows, AnswersEdit, RefusesFirst, Planned, planned_load, planned_insert, planned_replace, tree_refusal, AnswersBytes, AnswersLabel, AnswersLoad, AnswersInsert, AnswersReplace, AnswersDelete, AnswersFound, AnswersShow, roots, found_text, AnswersQuery, AnswersLine, AnswersForm, Answers}
+use Rattle.mm_run.specs.Settled.{IsTreeOrNone, IsLabelOrNone, HasReply}
+use Rattle.mm_words.specs.Words.{query_words}
+use Rattle.mm_words.specs.Refusals.{query_refusal, first_long}
+use Rattle.mm_words.specs.declared.error.QueryError.{QueryError}
+use Rattle.mm_words.specs.declared.error.QueryError.TheVariants as query
+use Rattle.mm_tree.specs.declared.forest.place.Place.{Place}
+use Rattle.mm_tree.specs.declared.refusal.Refusal.TheVariants as refusal
+use Rattle.mm_tree.specs.Edits.{found, subtree_size, delete, delete_refusal}
+use Rattle.mm_command.specs.Replies.{refused_text, done_text, tree_text, told}
+
+-- some reply and some forest after are answers
+abbrev Has : (List ℕ → Trees Labelled → Type 0) → Type 0
+Has Answered = (reply : List ℕ) × (after : Trees Labelled) × Answered reply after
+
+refused : (forest : Trees Labelled) (why : Refusal) → Has (Refuses forest why)
+refused forest why = (refused_text why, forest, record { text = refl; same = refl })
+
+shown : (forest : Trees Labelled) (answer : List ℕ) → Has (Shows forest answer)
+shown forest answer = (answer, forest, record { text = refl; same = refl })
+
+edited : (why : Option Refusal) (label : List ℤ) (count : ℕ) (changed forest : Trees Labelled) → Has (AnswersEdit why label count changed forest)
+edited None label count changed forest = (done_text label count, changed, record { text = refl; changed = refl })
+edited (Some why) label count changed forest = refused forest why
+
+refused-first : (why : Option Refusal) (other : Refusal) (forest : Trees Labelled) → Has (RefusesFirst why other forest)
+refused-first None other forest = refused forest other
+refused-first (Some why) other forest = refused forest why
+
+shown-found : (at : Option (Tree Labelled)) (forest : Trees Labelled) → Has (AnswersFound at forest)
+shown-found None forest = refused forest refusal.Absent
+shown-found (Some t) forest = shown forest (tree_text t)
+
+-- why words are no query is never that memory ran out
+no-memory : (many : Bool) (n : ℕ) (long : Option ℕ) → ◌≡◌ {A = Option QueryError} (cond many (Some (query.TooMany n)) (option_map query.TooLong long)) (Some query.Memory) → ⊥
+no-memory true n long e = cc
+no-memory false n None e = cc
+no-memory false n (Some m) e = cc
+
+refusal-known : (ws : List (List ℕ)) → query_refusal ws ≡ Some query.Memory → ⊥
+refusal-known [] e = cc
+refusal-known (w ∷ ws) e = no-memory (nat_lt 32 (length (w ∷ ws))) (length (w ∷ ws)) (first_long (w ∷ ws)) e
+
+searched : (why : Option QueryError) (text : List ℕ) (forest : Trees Labelled) → (why ≡ Some query.Memory → ⊥) → Has (AnswersQuery why text forest)
+searched None text forest known = shown forest text
+searched (Some query.NoWords) text forest known = refused forest refusal.Words
+searched (Some (query.TooMany n)) text forest known = refused forest refusal.Many
+searched (Some (query.TooLong n)) text forest known = refused forest refusal.Long
+searched (Some query.Memory) text forest known = absurd (known refl)
+
+module _ (tree_or_none : (bytes : List ℕ) → IsTreeOrNone bytes) (label_or_none : (text : List ℕ) → IsLabelOrNone text) where
+  with-bytes : (plan : Planned) (bytes : List ℕ) (forest : Trees Labelled) → Has (AnswersBytes plan bytes forest)
+  with-bytes plan bytes forest = ⊎_elim
+      (λ h. let e = edited (tree_refusal plan h.0) plan.label (nodes (one h.0)) (plan.edited h.0) forest in (e.0, e.1, inl (h.0, h.1, e.2)))
+      (λ h. let r = refused-first plan.target refusal.Xml forest in (r.0, r.1, inr (h, r.2)))
+      (tree_or_none bytes)
+
+  with-label : (text : List ℕ) (Answered : List ℤ → List ℕ → Trees Labelled → Type 0) (forest : Trees Labelled) → ((x : List ℤ) → Has (Answered x))
+      → Has (λ reply after. AnswersLabel text (λ x. Answered x reply after) (Refuses forest refusal.Label reply after))
+  with-label text Answered forest each = ⊎_elim
+      (λ h. let e = each h.0 in (e.0, e.1, inl (h.0, h.1, h.2, e.2)))
+      (λ h. let r = refused forest refusal.Label in (r.0, r.1, inr (h, r.2)))
+      (label_or_none text)
+
+  loaded : (p : Payload) (forest : Trees Labelled) → Has (AnswersLoad p forest)
+  loaded payload.Nothing forest = refused forest refusal.Command
+  loaded payload.Cut forest = refused forest refusal.Command
+  loaded payload.Long forest = refused forest refusal.Size
+  loaded (payload.Whole bytes) forest = with-bytes (planned_load forest) bytes forest
+
+  inserted : (place : Place) (text : List ℕ) (p : Payload) (forest : Trees Labelled) → Has (AnswersInsert place text p forest)
+  inserted place text payload.Nothing forest = refused forest refusal.Command
+  inserted place text payload.Cut forest = refused forest refusal.Command
+  inserted place text payload.Long forest = refused forest refusal.Size
+  inserted place text (payload.Whole bytes) forest = with-label text (λ x. AnswersBytes (planned_insert place x forest) bytes forest) forest (λ x. with-bytes (planned_insert place x forest) bytes forest)
+
+  replaced : (text : List ℕ) (p : Payload) (forest : Trees Labelled) → Has (AnswersReplace text p forest)
+  replaced text payload.Nothing forest = refused forest refusal.Command
+  replaced text payload.Cut forest = refused forest refusal.Command
+  replaced text payload.Long forest = refused forest refusal.Size
+  replaced text (payload.Whole bytes) forest = with-label text (λ x. AnswersBytes (planned_replace x forest) bytes forest) forest (λ x. with-bytes (planned_replace x forest) bytes forest)
+
+  of-line : (l : Line) (p : Payload) (forest : Trees Labelled) → Has (AnswersLine l p forest)
+  of-line line.Blank p forest = shown forest []
+  of-line line.Load p forest = loaded p forest
+  of-line (line.Insert place label) p forest = inserted place label p forest
+  of-line (line.Delete label) p forest =
+      with-label label (λ x. AnswersEdit (delete_refusal x forest) x (told (subtree_size x forest)) (delete x forest) forest) forest
+      (λ x. edited (delete_refusal x forest) x (told (subtree_size x forest)) (delete x forest) forest)
+  of-line (line.Replace label) p forest = replaced label p forest
+  of-line (line.Search find text) p forest =
+      searched (query_refusal (query_words text)) (found_text find (query_words text) forest (roots find (query_words text) forest)) forest (refusal-known (query_words text))
+  of-line (line.Show label) p forest = with-label label (λ x. AnswersFound (found x forest) forest) forest (λ x. shown-found (found x forest) forest)
+  of-line line.Quit p forest = shown forest []
+
+  of-form : (f : Form) (p : Payload) (forest : Trees Labelled) → Has (AnswersForm f p forest)
+  of-form None p forest = refused forest refusal.Command
+  of-form (Some l) p forest = of-line l p forest
+
+  pub replied : (forest : Trees Labelled) (command : Command) → HasReply forest command
+  unfolding Answers
+  replied forest command = of-form command.form command.payload forest
