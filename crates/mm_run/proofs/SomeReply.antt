@@ -11,7 +11,7 @@ use Rattle.mm_run.specs.Forms.{Form}
 use Rattle.mm_run.specs.declared.command.Payload.{Payload}
 use Rattle.mm_run.specs.declared.command.Payload.TheVariants as payload
 use Rattle.mm_run.specs.Answers.{Refuses, Shows, AnswersEdit, RefusesFirst, Planned, planned_load, planned_insert, planned_replace, tree_refusal, AnswersBytes, AnswersLabel, AnswersLoad, AnswersInsert, AnswersReplace, AnswersDelete, AnswersFound, AnswersShow, roots, found_text, AnswersQuery, AnswersLine, AnswersForm, Answers}
-use Rattle.mm_run.specs.Settled.{IsTreeOrNone, IsLabelOrNone, HasReply}
+use Rattle.mm_run.specs.Settled.{IsTreeOrNone, IsLabelOrNone, HasReply, bytes_in, label_in, label_asked}
 use Rattle.mm_words.specs.Words.{query_words}
 use Rattle.mm_words.specs.Refusals.{query_refusal, first_long}
 use Rattle.mm_words.specs.declared.error.QueryError.{QueryError}
@@ -60,55 +60,65 @@ searched (Some (query.TooMany n)) text forest known = refused forest refusal.Man
 searched (Some (query.TooLong n)) text forest known = refused forest refusal.Long
 searched (Some query.Memory) text forest known = absurd (known refl)
 
-module _ (tree_or_none : (bytes : List ℕ) → IsTreeOrNone bytes) (label_or_none : (text : List ℕ) → IsLabelOrNone text) where
-  with-bytes : (plan : Planned) (bytes : List ℕ) (forest : Trees Labelled) → Has (AnswersBytes plan bytes forest)
-  with-bytes plan bytes forest = ⊎_elim
-      (λ h. let e = edited (tree_refusal plan h.0) plan.label (nodes (one h.0)) (plan.edited h.0) forest in (e.0, e.1, inl (h.0, h.1, e.2)))
-      (λ h. let r = refused-first plan.target refusal.Xml forest in (r.0, r.1, inr (h, r.2)))
-      (tree_or_none bytes)
+with-bytes : (plan : Planned) (bytes : List ℕ) (forest : Trees Labelled) → IsTreeOrNone bytes → Has (AnswersBytes plan bytes forest)
+with-bytes plan bytes forest = ⊎_elim
+    (λ h. let e = edited (tree_refusal plan h.0) plan.label (nodes (one h.0)) (plan.edited h.0) forest in (e.0, e.1, inl (h.0, h.1, e.2)))
+    (λ h. let r = refused-first plan.target refusal.Xml forest in (r.0, r.1, inr (h, r.2)))
 
-  with-label : (text : List ℕ) (Answered : List ℤ → List ℕ → Trees Labelled → Type 0) (forest : Trees Labelled) → ((x : List ℤ) → Has (Answered x))
-      → Has (λ reply after. AnswersLabel text (λ x. Answered x reply after) (Refuses forest refusal.Label reply after))
-  with-label text Answered forest each = ⊎_elim
-      (λ h. let e = each h.0 in (e.0, e.1, inl (h.0, h.1, h.2, e.2)))
-      (λ h. let r = refused forest refusal.Label in (r.0, r.1, inr (h, r.2)))
-      (label_or_none text)
+with-label : (text : List ℕ) (Answered : List ℤ → List ℕ → Trees Labelled → Type 0) (forest : Trees Labelled) → ((x : List ℤ) → Has (Answered x)) → IsLabelOrNone text
+    → Has (λ reply after. AnswersLabel text (λ x. Answered x reply after) (Refuses forest refusal.Label reply after))
+with-label text Answered forest each = ⊎_elim
+    (λ h. let e = each h.0 in (e.0, e.1, inl (h.0, h.1, h.2, e.2)))
+    (λ h. let r = refused forest refusal.Label in (r.0, r.1, inr (h, r.2)))
 
-  loaded : (p : Payload) (forest : Trees Labelled) → Has (AnswersLoad p forest)
-  loaded payload.Nothing forest = refused forest refusal.Command
-  loaded payload.Cut forest = refused forest refusal.Command
-  loaded payload.Long forest = refused forest refusal.Size
-  loaded (payload.Whole bytes) forest = with-bytes (planned_load forest) bytes forest
+loaded : (p : Payload) (forest : Trees Labelled) → IsTreeOrNone (bytes_in p) → Has (AnswersLoad p forest)
+loaded payload.Nothing forest tree = refused forest refusal.Command
+loaded payload.Cut forest tree = refused forest refusal.Command
+loaded payload.Long forest tree = refused forest refusal.Size
+loaded (payload.Whole bytes) forest tree = with-bytes (planned_load forest) bytes forest tree
 
-  inserted : (place : Place) (text : List ℕ) (p : Payload) (forest : Trees Labelled) → Has (AnswersInsert place text p forest)
-  inserted place text payload.Nothing forest = refused forest refusal.Command
-  inserted place text payload.Cut forest = refused forest refusal.Command
-  inserted place text payload.Long forest = refused forest refusal.Size
-  inserted place text (payload.Whole bytes) forest = with-label text (λ x. AnswersBytes (planned_insert place x forest) bytes forest) forest (λ x. with-bytes (planned_insert place x forest) bytes forest)
+inserted : (place : Place) (text : List ℕ) (p : Payload) (forest : Trees Labelled) → IsTreeOrNone (bytes_in p) → IsLabelOrNone text → Has (AnswersInsert place text p forest)
+inserted place text payload.Nothing forest tree label = refused forest refusal.Command
+inserted place text payload.Cut forest tree label = refused forest refusal.Command
+inserted place text payload.Long forest tree label = refused forest refusal.Size
+inserted place text (payload.Whole bytes) forest tree label =
+    with-label text (λ x. AnswersBytes (planned_insert place x forest) bytes forest) forest (λ x. with-bytes (planned_insert place x forest) bytes forest tree) label
 
-  replaced : (text : List ℕ) (p : Payload) (forest : Trees Labelled) → Has (AnswersReplace text p forest)
-  replaced text payload.Nothing forest = refused forest refusal.Command
-  replaced text payload.Cut forest = refused forest refusal.Command
-  replaced text payload.Long forest = refused forest refusal.Size
-  replaced text (payload.Whole bytes) forest = with-label text (λ x. AnswersBytes (planned_replace x forest) bytes forest) forest (λ x. with-bytes (planned_replace x forest) bytes forest)
+replaced : (text : List ℕ) (p : Payload) (forest : Trees Labelled) → IsTreeOrNone (bytes_in p) → IsLabelOrNone text → Has (AnswersReplace text p forest)
+replaced text payload.Nothing forest tree label = refused forest refusal.Command
+replaced text payload.Cut forest tree label = refused forest refusal.Command
+replaced text payload.Long forest tree label = refused forest refusal.Size
+replaced text (payload.Whole bytes) forest tree label =
+    with-label text (λ x. AnswersBytes (planned_replace x forest) bytes forest) forest (λ x. with-bytes (planned_replace x forest) bytes forest tree) label
 
-  of-line : (l : Line) (p : Payload) (forest : Trees Labelled) → Has (AnswersLine l p forest)
-  of-line line.Blank p forest = shown forest []
-  of-line line.Load p forest = loaded p forest
-  of-line (line.Insert place label) p forest = inserted place label p forest
-  of-line (line.Delete label) p forest =
-      with-label label (λ x. AnswersEdit (delete_refusal x forest) x (told (subtree_size x forest)) (delete x forest) forest) forest
-      (λ x. edited (delete_refusal x forest) x (told (subtree_size x forest)) (delete x forest) forest)
-  of-line (line.Replace label) p forest = replaced label p forest
-  of-line (line.Search find text) p forest =
-      searched (query_refusal (query_words text)) (found_text find (query_words text) forest (roots find (query_words text) forest)) forest (refusal-known (query_words text))
-  of-line (line.Show label) p forest = with-label label (λ x. AnswersFound (found x forest) forest) forest (λ x. shown-found (found x forest) forest)
-  of-line line.Quit p forest = shown forest []
+of-line : (l : Line) (p : Payload) (forest : Trees Labelled) → IsTreeOrNone (bytes_in p) → IsLabelOrNone (label_in l) → Has (AnswersLine l p forest)
+of-line line.Blank p forest tree label = shown forest []
+of-line line.Load p forest tree label = loaded p forest tree
+of-line (line.Insert place text) p forest tree label = inserted place text p forest tree label
+of-line (line.Delete text) p forest tree label =
+    with-label text (λ x. AnswersEdit (delete_refusal x forest) x (told (subtree_size x forest)) (delete x forest) forest) forest
+    (λ x. edited (delete_refusal x forest) x (told (subtree_size x forest)) (delete x forest) forest) label
+of-line (line.Replace text) p forest tree label = replaced text p forest tree label
+of-line (line.Search find text) p forest tree label =
+    searched (query_refusal (query_words text)) (found_text find (query_words text) forest (roots find (query_words text) forest)) forest (refusal-known (query_words text))
+of-line (line.Show text) p forest tree label = with-label text (λ x. AnswersFound (found x forest) forest) forest (λ x. shown-found (found x forest) forest) label
+of-line line.Quit p forest tree label = shown forest []
 
-  of-form : (f : Form) (p : Payload) (forest : Trees Labelled) → Has (AnswersForm f p forest)
-  of-form None p forest = refused forest refusal.Command
-  of-form (Some l) p forest = of-line l p forest
+of-form : (f : Form) (p : Payload) (forest : Trees Labelled) → IsTreeOrNone (bytes_in p) → IsLabelOrNone (label_asked f) → Has (AnswersForm f p forest)
+of-form None p forest tree label = refused forest refusal.Command
+of-form (Some l) p forest tree label = of-line l p forest tree label
 
-  pub replied : (forest : Trees Labelled) (command : Command) → HasReply forest command
-  unfolding Answers
-  replied forest command = of-form command.form command.payload forest
+pub replied : (forest : Trees Labelled) (command : Command) → IsTreeOrNone (bytes_in command.payload) → IsLabelOrNone (label_asked command.form) → HasReply forest command
+unfolding Answers
+replied forest command = of-form command.form command.payload forest
+
+-- none is without either, so none is without a reply
+tree_settled : (bytes : List ℕ) → (IsTreeOrNone bytes → ⊥) → ⊥
+tree_settled bytes no = no (inr (λ t s. no (inl (t, s))))
+
+label_settled : (text : List ℕ) → (IsLabelOrNone text → ⊥) → ⊥
+label_settled text no = no (inr (λ x is e. no (inl (x, is, e))))
+
+pub never_without : (forest : Trees Labelled) (command : Command) → (HasReply forest command → ⊥) → ⊥
+never_without forest command no =
+    tree_settled (bytes_in command.payload) (λ tree. label_settled (label_asked command.form) (λ label. no (replied forest command tree label)))

@@ -4,7 +4,7 @@ ghost use Rattle.mm_tree.specs.Trees.{Trees};
 ghost use Rattle.mm_tree.specs.Numbering.{Labelled};
 ghost use Rattle.mm_run.specs.declared.command.Command.{Command};
 ghost use Rattle.mm_run.specs.Answers.{Replies};
-ghost use Rattle.mm_run.specs.Settled.{IsTreeOrNone, IsLabelOrNone, HasReply};
+ghost use Rattle.mm_run.specs.Settled.{IsTreeOrNone, IsLabelOrNone, HasReply, bytes_in, label_asked};
 
 use mm_label::laws::one_text;
 use mm_xml::laws::one_tree;
@@ -18,8 +18,10 @@ pub fn one_reply()
     one_text();
 }
 
-/// In each forest each command has a reply, if it is settled which bytes spell a tree and which texts
-/// are labels, as the readers of both settle it.
+/// In no forest a command is without a reply. It can be given where it is settled whether the payload
+/// spells a tree and whether the word is a label's text, as the readers of both settle it.
 pub fn some_reply()
-    ensures { ((bytes : List ℕ) → IsTreeOrNone bytes) → ((text : List ℕ) → IsLabelOrNone text) → (forest : Trees Labelled) (command : Command) → HasReply forest command }
+    ensures never_without { (forest : Trees Labelled) (command : Command) → ¬ ¬ HasReply forest command }
+    ensures settled { (forest : Trees Labelled) (command : Command)
+        → IsTreeOrNone (bytes_in command.payload) → IsLabelOrNone (label_asked command.form) → HasReply forest command }
 {}
