@@ -3,7 +3,11 @@
 
 mod adapters;
 
-ghost use Rattle.std.specs.Prelude.{◌≡◌, ◌<◌};
+ghost use Rattle.std.specs.Prelude.{◌≡◌, ◌≢◌, ◌<◌, ◌↔◌, ℕ, List, length, Some};
+ghost use Rattle.mm_host.specs.declared.damage.Damage.{Damage};
+ghost use Rattle.mm_run.specs.Statuses.{fault_line, source_faults_after, HasSinkFaults};
+ghost use Rattle.mm_run.specs.Run.{Streams, Runs};
+ghost use Rattle.mm_run.specs.declared.status.Status.TheVariants as status;
 
 use crate::adapters::{ReadSource, WriteSink};
 use mm_host::{Disk, NoDisk, Sink, Source, write_all};
@@ -15,7 +19,7 @@ use std::process::ExitCode;
 use std::sync::ledger::{Blank, Ledger};
 use std::{env, io};
 
-/// A run whose steps nobody asks for.
+/// `run`, with a counter of steps of its own.
 fn run_uncounted<S: Source, W: Sink, D: Disk, L: Ledger>(
     alloc: Global,
     words: &[String],
@@ -27,6 +31,16 @@ fn run_uncounted<S: Source, W: Sink, D: Disk, L: Ledger>(
     requires name { blank.name ≡ L.name }
     requires parts { blank.parts ≡ L.parts }
     requires some { 0 < blank.parts }
+    ensures runs { (bytes : List ℕ) → S.left source.old ≡ Some bytes → (taken : ℕ) × Runs (fault_line result)
+        (record { left = S.left source.old; written = W.written sink.old; sink_faults = W.fault_count sink.old; steps = 0 })
+        (record { left = S.left source.new; written = W.written sink.new; sink_faults = W.fault_count sink.new; steps = taken })
+        bytes result }
+    ensures usage { (result ≡ status.Usage) ↔ (length words.now ≢ 1) }
+    ensures source_faults { S.fault_count source.new ≡ source_faults_after result (S.fault_count source.old) }
+    ensures sink_faults { HasSinkFaults result (W.fault_count sink.old) (W.fault_count sink.new) }
+    ensures no_disk_fault { result ≢ status.DiskFault }
+    ensures no_damage { (damage : Damage) → result ≢ status.Damaged damage }
+    ensures disk { disk.new ≡ disk.old }
 {
     let mut steps = Steps::<L>::new(blank);
     run(alloc, words, source, sink, disk, &mut steps)
