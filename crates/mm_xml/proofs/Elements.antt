@@ -3,19 +3,19 @@ use Rattle.std.proofs.Common.{◌≡◌, ℕ, zero, suc, Bool, true, false, cond
 use Rattle.std.specs.Prelude.{IsTrue}
 use Rattle.std.specs.List.{flat_map, list_all}
 use Rattle.std.specs.Str.{chars, encode_utf8_all}
-use Rattle.std.proofs.lemmas.Bool.{eqb-true, and_parts, and_from}
+use Rattle.std.proofs.lemmas.Bool.{eqb-true, and_parts}
 use Rattle.std.proofs.lemmas.List.{append-nil, length-append}
 use Rattle.mm_tree.specs.declared.Kind.{Kind}
 use Rattle.mm_tree.specs.declared.Kind.TheVariants.{Element, Words}
-use Rattle.mm_tree.specs.Characters.{is_space, is_short_name}
+use Rattle.mm_tree.specs.Characters.{is_space}
 use Rattle.mm_tree.specs.Trees.{Trees, none, node, Tree}
-use Rattle.mm_xml.specs.Syntax.{Literal, Reference, is_literal, meant, Written, spelled_written, attribute_of, Token, Data, Section, Comment, Instruction, Start, Close, Doctype, is_token, spelled}
+use Rattle.mm_xml.specs.Syntax.{Literal, Reference, is_literal, meant, Written, attribute_of, Token, Data, Section, Comment, Instruction, Start, Close, Doctype, is_token, spelled}
 use Rattle.mm_xml.specs.Grammar.{Bracket, Begin, End, end_name, text_brackets, start_brackets, brackets, bracketing, is_inside, is_textual, normal}
-use Rattle.mm_xml.specs.Productions.{is_plain, PartBy, characters_of, SpellsRun, ends_text, is_content, SpellsContent, behind_text, is_end, fewer, closes, SpellsElement}
+use Rattle.mm_xml.specs.Productions.{PartBy, characters_of, SpellsRun, ends_text, is_content, SpellsContent, behind_text, is_end, fewer, closes, SpellsElement}
 use Rattle.mm_xml.proofs.Whole.{first}
 use Rattle.mm_xml.specs.Parts.{SpellsToken}
 use Rattle.mm_xml.proofs.Splits.{first_char, token_part}
-use Rattle.mm_xml.proofs.Joins.{plain_same, no_part, all_append, join_behind, join_markup, join_nothing, BeginsMarkup, part_of_one, start_plain, close_plain, start_ends, closed}
+use Rattle.mm_xml.proofs.Joins.{no_part, all_append, join_behind, join_markup, join_nothing, start_ends, closed}
 
 -- ---- brackets of tokens behind others
 

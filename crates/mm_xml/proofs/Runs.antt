@@ -1,19 +1,17 @@
 -- What texts are made of.
-use Rattle.std.proofs.Common.{◌≡◌, ℕ, zero, suc, ◌+◌, true, false, cond, ◌&&◌, ◌||◌, not, List, [], ◌∷◌, ◌++◌, Some, eqb, leb, refl, sym, ap, subst, ◌∙◌, append_assoc, arith, ◌⊎◌, inl, inr}
+use Rattle.std.proofs.Common.{◌≡◌, ℕ, zero, suc, ◌+◌, true, false, cond, ◌&&◌, ◌||◌, not, List, [], ◌∷◌, ◌++◌, eqb, leb, refl, sym, ap, ◌∙◌, append_assoc, arith, ◌⊎◌, inl, inr}
 use Rattle.std.specs.Prelude.{IsTrue}
 use Rattle.std.specs.List.{flat_map, list_all}
-use Rattle.std.specs.Str.{chars, encode_utf8_all}
+use Rattle.std.specs.Str.{chars}
 use Rattle.std.proofs.lemmas.Bool.{eqb-true, and_parts, and_from, or_cases}
 use Rattle.std.proofs.lemmas.List.{append-nil}
-use Rattle.mm_tree.specs.Characters.{is_name}
-use Rattle.mm_xml.specs.Letters.{referred, is_free}
-use Rattle.mm_xml.specs.Syntax.{Literal, Reference, is_literal, not_semicolon, is_some, if_named, Token, Data, Section, Comment, Instruction, Start, Close, Doctype, is_token, spelled}
+use Rattle.mm_xml.specs.Letters.{is_free}
+use Rattle.mm_xml.specs.Syntax.{Literal, Reference, is_literal, Token, Data, Section, Comment, Instruction, Start, Close, Doctype, is_token, spelled}
 use Rattle.mm_xml.specs.Grammar.{unbroken, is_textual, normal}
-use Rattle.mm_xml.specs.Productions.{is_plain, with_line_feeds, PartBy, characters_of, SpellsRun, ends_run, ends_markup}
-use Rattle.mm_xml.proofs.Attributes.{name_chars}
+use Rattle.mm_xml.specs.Productions.{with_line_feeds, PartBy, characters_of, SpellsRun, ends_run, ends_markup}
 use Rattle.mm_xml.specs.Parts.{SpellsCharData, is_markup, SpellsMarkup}
 use Rattle.mm_xml.proofs.Splits.{token_part}
-use Rattle.mm_xml.proofs.Joins.{all_append, part_join, join_markup, join_nothing, part_of, part_of_one, no_part, plain_append, name_plain, no_return, last_or, last_append, squares}
+use Rattle.mm_xml.proofs.Joins.{all_append, part_join, join_markup, join_nothing, no_part, no_return, last_or, last_append, squares}
 
 -- ---- nothing
 

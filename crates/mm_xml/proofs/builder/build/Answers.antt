@@ -1,4 +1,4 @@
-use Rattle.std.proofs.Common.{◌∙◌, ◌+◌, ◌-◌, length, sym, ap, rules, arith}
+use Rattle.std.proofs.Common.{◌∙◌, ◌+◌, ◌-◌, length, rules, arith}
 use Rattle.std.specs.Str.{chars}
 use Rattle.mm_xml.proofs.TextFacts.{few}
 use Rattle.std.proofs.lemmas.Result.{err_from_is_err_and}

@@ -1,4 +1,4 @@
-use Rattle.std.proofs.Common.{◌∙◌, ◌+◌, ◌-◌, length, sym, ap, rules, arith}
+use Rattle.std.proofs.Common.{◌∙◌, ◌+◌, ◌-◌, length, rules, arith}
 use Rattle.std.specs.Str.{chars}
 use Rattle.mm_xml.proofs.TextFacts.{few}
 use Rattle.mm_xml.specs.Inside.Builds.{outline_of, order_of}
