@@ -14,8 +14,8 @@ use Rattle.mm_run.specs.Lines.{lines, HasNoLineFeed}
 use Rattle.mm_run.specs.Forms.{Form, form_of, takes_payload, quits}
 use Rattle.mm_run.specs.Payloads.{closes, payload_of}
 use Rattle.mm_run.specs.Commands.{Begun, grouped}
-use Rattle.mm_run.specs.Input.{Went}
-use Rattle.mm_run.specs.Step.{WentPart, WentRow, WentLastRow, WentCommand, WentLast, WentQuit, WentRest, GivesNext, IsLast, last_payload}
+use Rattle.mm_run.specs.Inside.Input.{Went}
+use Rattle.mm_run.specs.Inside.Step.{WentPart, WentRow, WentLastRow, WentCommand, WentLast, WentQuit, WentRest, GivesNext, IsLast, last_payload}
 use Rattle.mm_run.proofs.Going.{went-more}
 use Rattle.mm_run.proofs.Tested.{test-false}
 

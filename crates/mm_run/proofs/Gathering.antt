@@ -9,7 +9,7 @@ use Rattle.mm_run.specs.declared.line.ReadError.{ReadError}
 use Rattle.mm_run.specs.declared.line.ReadError.TheVariants.{Source, Memory}
 use Rattle.mm_run.specs.Forms.{Form, quits}
 use Rattle.mm_run.specs.Payloads.{unstopped, joined, ended_rows, payload_of, payload_limit}
-use Rattle.mm_run.specs.Step.{WentPart, WentRow, WentLastRow, GivesRow, GivesNext}
+use Rattle.mm_run.specs.Inside.Step.{WentPart, WentRow, WentLastRow, GivesRow, GivesNext}
 use Rattle.mm_run.proofs.Cutting.{after-row, row-closed, row-last, row-cut, part-rest}
 use Rattle.mm_run.proofs.Rows.{ended-more, long-is, over-is, over-more}
 

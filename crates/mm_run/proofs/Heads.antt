@@ -14,9 +14,9 @@ use Rattle.mm_run.specs.declared.line.ReadError.{ReadError}
 use Rattle.mm_run.specs.declared.line.ReadError.TheVariants.{Source, Memory}
 use Rattle.mm_run.specs.declared.command.Payload.TheVariants.{Nothing}
 use Rattle.mm_run.specs.Lines.{HasNoLineFeed}
-use Rattle.mm_run.specs.Input.{Went}
+use Rattle.mm_run.specs.Inside.Input.{Went}
 use Rattle.mm_run.specs.Forms.{Form, form_of, takes_payload, quits}
-use Rattle.mm_run.specs.Step.{WentCommand, WentQuit, GivesLine, GivesNext, IsLast, last_payload}
+use Rattle.mm_run.specs.Inside.Step.{WentCommand, WentQuit, GivesLine, GivesNext, IsLast, last_payload}
 use Rattle.mm_run.proofs.Cutting.{part-rest, went-last, went-quit, went-alone, went-payload}
 use Rattle.mm_run.proofs.Rows.{strip-at}
 

@@ -5,10 +5,10 @@ use Rattle.std.proofs.lemmas.Bool.{cases_lt}
 use Rattle.std.specs.declared.option.Option.{Option}
 use Rattle.std.specs.Io.KnownBytes.{prepend_known, IsAtEnd}
 use Rattle.mm_run.specs.declared.line.Ending.TheVariants.{Feed, Input}
-use Rattle.mm_run.specs.Buffer.{Buffered}
+use Rattle.mm_run.specs.Inside.Buffer.{Buffered}
 use Rattle.mm_run.specs.Lines.{HasNoLineFeed}
-use Rattle.mm_run.specs.Input.{rest, reach, Went}
-use Rattle.mm_run.specs.Step.{KeepsLine, WentPart, WentSome, GivesLine}
+use Rattle.mm_run.specs.Inside.Input.{rest, reach, Went}
+use Rattle.mm_run.specs.Inside.Step.{KeepsLine, WentPart, WentSome, GivesLine}
 use Rattle.mm_run.proofs.Going.{prepend_known-append, went-none, went-more, went-still, no_feed-append}
 
 -- what is cut from the front may be cut again

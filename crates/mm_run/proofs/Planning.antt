@@ -11,7 +11,7 @@ use Rattle.mm_xml.specs.Grammar.{Spells}
 use Rattle.mm_run.specs.declared.editing.Edit.{Edit}
 use Rattle.mm_run.specs.declared.editing.Edit.TheVariants.{Load, Insert, Replace}
 use Rattle.mm_run.specs.Answers.{Planned, first_cause, tree_refusal, AnswersEdit, AnswersBytes, RefusesFirst}
-use Rattle.mm_run.specs.Edits.{planned}
+use Rattle.mm_run.specs.Inside.Edits.{planned}
 
 -- the target's causes come first in a tree's refusal already
 twice-absent : (absent : Bool) (why : Option Refusal) → first_cause (cond absent (Some Absent) None) (cond absent (Some Absent) why) ≡ cond absent (Some Absent) why

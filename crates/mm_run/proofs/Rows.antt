@@ -8,7 +8,7 @@ use Rattle.std.proofs.lemmas.Slice.Eq.{bytes_eq-Decides}
 use Rattle.std.specs.Io.BufRead.{strip_last, ends_with_byte}
 use Rattle.mm_run.specs.declared.command.Payload.TheVariants.{Whole, Long}
 use Rattle.mm_run.specs.Payloads.{closes, unstopped, joined, ended_rows, payload_of, payload_limit}
-use Rattle.mm_run.specs.Step.{EndsRow}
+use Rattle.mm_run.specs.Inside.Step.{EndsRow}
 use Rattle.mm_run.proofs.Tested.{test-false}
 
 pub strip-at : (ends : Bool) (line : List ℕ) → length line ≤ length (cond ends (take (length line - 1) line) line) + 1

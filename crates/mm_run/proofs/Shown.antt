@@ -16,7 +16,7 @@ use Rattle.mm_command.specs.declared.line.Find.{Find}
 use Rattle.mm_command.specs.declared.line.Find.TheVariants.{Maxmatch, MaxmatchElca}
 use Rattle.mm_run.specs.Answers.{found_text, fragments_of, roots}
 use Rattle.mm_run.specs.Steps.{find_cost, fragments_cost, roots_cost, show_cost}
-use Rattle.mm_run.specs.Told.{AreTold}
+use Rattle.mm_run.specs.Inside.Told.{AreTold}
 
 abbrev pub ForFragments : Find → Type 0
 ForFragments find = (find ≡ Maxmatch) ⊎ (find ≡ MaxmatchElca)

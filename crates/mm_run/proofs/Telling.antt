@@ -11,9 +11,9 @@ use Rattle.mm_tree.specs.Numbering.{Labelled}
 use Rattle.mm_run.specs.declared.command.Command.{Command}
 use Rattle.mm_run.specs.declared.status.Status.{Status}
 use Rattle.mm_run.specs.declared.status.Status.TheVariants as status
-use Rattle.mm_run.specs.Buffer.{Buffered}
+use Rattle.mm_run.specs.Inside.Buffer.{Buffered}
 use Rattle.mm_run.specs.Commands.{commands, all_commands}
-use Rattle.mm_run.specs.Input.{rest, reach}
+use Rattle.mm_run.specs.Inside.Input.{rest, reach}
 use Rattle.mm_run.specs.Statuses.{fault_line, sink_faults_after, HasSinkFaults}
 use Rattle.mm_run.specs.Run.{Streams, AreAnswered, HasEnd, HasLine, IsShown, Runs, input_limit}
 use Rattle.mm_run.specs.Inside.Turning.{State, Served, HasStopped, IsFront, EndsWith}

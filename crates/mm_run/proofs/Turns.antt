@@ -16,7 +16,7 @@ use Rattle.mm_run.specs.declared.status.Status.TheVariants as status
 use Rattle.mm_run.specs.Forms.{Form, quits}
 use Rattle.mm_run.specs.Commands.{commands, all_commands}
 use Rattle.mm_run.specs.Answers.{Answers, AnswersForm, Replies}
-use Rattle.mm_run.specs.Step.{Cuts, WentCommand, WentLast, WentQuit, WentRest, WentSome}
+use Rattle.mm_run.specs.Inside.Step.{Cuts, WentCommand, WentLast, WentQuit, WentRest, WentSome}
 use Rattle.mm_run.specs.Steps.{cost, next_cost, Costs, unfinished_cost}
 use Rattle.mm_run.specs.Run.{AreAnswered}
 use Rattle.mm_run.specs.Statuses.{source_faults_after}

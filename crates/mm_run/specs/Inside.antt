@@ -1,1 +1,6 @@
 pub mod Turning
+pub mod Step
+pub mod Input
+pub mod Buffer
+pub mod Told
+pub mod Edits

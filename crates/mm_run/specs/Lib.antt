@@ -2,13 +2,8 @@ pub mod Lines
 pub mod Forms
 pub mod Payloads
 pub mod Commands
-pub mod Buffer
-pub mod Input
-pub mod Step
 pub mod Answers
 pub mod Settled
-pub mod Edits
-pub mod Told
 pub mod Steps
 pub mod Statuses
 pub mod Run

@@ -3,9 +3,9 @@ ghost use Rattle.std.specs.Prelude.{◌≡◌, ◌≢◌, ◌+◌, ◌-◌, ◌�
 ghost use Rattle.std.specs.declared.option.Option.{Option};
 ghost use Rattle.std.specs.Io.KnownBytes.{prepend_known, IsAtEnd};
 ghost use Rattle.mm_host.specs.Causes.{HasCause};
-ghost use Rattle.mm_run.specs.Buffer.{Buffered};
+ghost use Rattle.mm_run.specs.Inside.Buffer.{Buffered};
 ghost use Rattle.mm_run.specs.Lines.{HasNoLineFeed};
-ghost use Rattle.mm_run.specs.Input.{rest, reach, Supplies, TakesLine};
+ghost use Rattle.mm_run.specs.Inside.Input.{rest, reach, Supplies, TakesLine};
 
 use memchr::memchr;
 use mm_host::{Failed, Source};

@@ -7,7 +7,7 @@ ghost use Rattle.mm_command.specs.Replies.{refused_text};
 ghost use Rattle.mm_tree.specs.Forests.{IsRefusal};
 ghost use Rattle.mm_tree.specs.Validity.{is_element, is_valid_tree};
 ghost use Rattle.mm_run.specs.Answers.{target_refusal, AnswersEdit, RefusesFirst, AnswersBytes};
-ghost use Rattle.mm_run.specs.Edits.{planned};
+ghost use Rattle.mm_run.specs.Inside.Edits.{planned};
 
 use crate::command::Body;
 use mm_command::{Reply, write_reply};

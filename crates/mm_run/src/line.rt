@@ -1,8 +1,8 @@
 // Lines, cut from an input.
 ghost use Rattle.std.specs.Prelude.{◌≡◌, ◌≤◌, [], Err, vec_len};
 ghost use Rattle.mm_run.specs.declared.line.ReadError.TheVariants.{Source};
-ghost use Rattle.mm_run.specs.Input.{rest, reach};
-ghost use Rattle.mm_run.specs.Step.{faults_after, GivesLine};
+ghost use Rattle.mm_run.specs.Inside.Input.{rest, reach};
+ghost use Rattle.mm_run.specs.Inside.Step.{faults_after, GivesLine};
 
 use crate::buffer::{Buffer, Supply, refill};
 use mm_host::Source;

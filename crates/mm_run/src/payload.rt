@@ -1,10 +1,10 @@
 // Payloads, cut from an input.
 ghost use Rattle.std.specs.Prelude.{◌≡◌, false, ◌+◌, ◌<◌, ◌≤◌, ◌^◌, ℕ, List, [], ◌++◌, Err, Some, IfOk, take, drop, length, vec_len, if◌then◌else◌};
 ghost use Rattle.mm_run.specs.declared.line.ReadError.TheVariants.{Source};
-ghost use Rattle.mm_run.specs.Input.{rest, reach};
+ghost use Rattle.mm_run.specs.Inside.Input.{rest, reach};
 ghost use Rattle.mm_run.specs.Forms.{quits};
 ghost use Rattle.mm_run.specs.Payloads.{closes, unstopped, joined, ended_rows, payload_of, payload_limit};
-ghost use Rattle.mm_run.specs.Step.{faults_after, EndsRow, GivesRow, GivesNext};
+ghost use Rattle.mm_run.specs.Inside.Step.{faults_after, EndsRow, GivesRow, GivesNext};
 
 use crate::buffer::Buffer;
 use crate::command::{Body, Command, PAYLOAD_LIMIT, Payload};

@@ -1,8 +1,8 @@
 // Commands, cut from an input.
 ghost use Rattle.std.specs.Prelude.{◌≡◌, [], Err, None, IfOk, IfErr};
 ghost use Rattle.mm_run.specs.declared.line.ReadError.TheVariants.{Source, Memory};
-ghost use Rattle.mm_run.specs.Input.{rest, reach};
-ghost use Rattle.mm_run.specs.Step.{faults_after, GivesNext, IsLast};
+ghost use Rattle.mm_run.specs.Inside.Input.{rest, reach};
+ghost use Rattle.mm_run.specs.Inside.Step.{faults_after, GivesNext, IsLast};
 
 use crate::buffer::Buffer;
 use crate::command::{Command, Payload};

@@ -10,7 +10,7 @@ ghost use Rattle.mm_lists.specs.Causes.{Caused, IsSound};
 ghost use Rattle.mm_command.specs.Replies.{reply_text};
 ghost use Rattle.mm_run.specs.Answers.{AnswersSearch, fragment_at, fragments_of, found_text, roots};
 ghost use Rattle.mm_run.specs.Steps.{find_cost, fragment_cost, fragments_cost, roots_cost, search_cost};
-ghost use Rattle.mm_run.specs.Told.{AreTold};
+ghost use Rattle.mm_run.specs.Inside.Told.{AreTold};
 
 use crate::editing::refuse;
 use mm_command::{Find, Reply, write_reply};

@@ -1,7 +1,7 @@
 // Turns and runs.
 ghost use Rattle.std.specs.Prelude.{◌≡◌, ◌≤◌, ◌+◌, [], Err};
 ghost use Rattle.mm_tree.specs.Numbering.{forest_of};
-ghost use Rattle.mm_run.specs.Input.{rest, reach};
+ghost use Rattle.mm_run.specs.Inside.Input.{rest, reach};
 ghost use Rattle.mm_run.specs.Statuses.{source_faults_after, sink_faults_after};
 ghost use Rattle.mm_run.specs.Inside.Turning.{State, Served, GivesTurn, GivesAnswer, status_of};
 ghost use Rattle.mm_run.specs.Steps.{cost};

@@ -14,8 +14,8 @@ use Rattle.mm_run.specs.Commands.{all_commands, HasQuit, HasNoQuit}
 use Rattle.mm_run.specs.Answers.{Answers, Replies}
 use Rattle.mm_run.specs.Steps.{Costs, unfinished_cost}
 use Rattle.mm_run.specs.Run.{AreAnswered, HasLine}
-use Rattle.mm_run.specs.Input as input
-use Rattle.mm_run.specs.Step.{Cuts}
+use Rattle.mm_run.specs.Inside.Input as input
+use Rattle.mm_run.specs.Inside.Step.{Cuts}
 
 -- what is before a run: the bytes left and how many of them count, the bytes written, the forest, and the steps taken
 pub record State : Type 0 where

@@ -1,7 +1,7 @@
 use Rattle.std.proofs.Common.{ap, Err}
 use Rattle.mm_tree.specs.Trees.{tree_of}
 use Rattle.mm_tree.specs.Numbering.{forest_of}
-use Rattle.mm_run.specs.Edits.{planned}
+use Rattle.mm_run.specs.Inside.Edits.{planned}
 use Rattle.mm_run.proofs.Planning.{spelled, spelled-deep, unspelled}
 use Rattle.mm_run.proofs.editing.answer_bytes.Goals as goal
 

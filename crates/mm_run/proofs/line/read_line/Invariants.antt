@@ -1,5 +1,5 @@
 use Rattle.std.proofs.Common.{◌≡◌, ◌≤◌, vec_len}
-use Rattle.mm_run.specs.Input.{rest, reach}
+use Rattle.mm_run.specs.Inside.Input.{rest, reach}
 use Rattle.mm_run.proofs.Parts.{SoFar}
 use Rattle.mm_run.proofs.line.read_line.Given as goal
 

@@ -1,5 +1,5 @@
 use Rattle.std.proofs.Common.{◌≡◌, ◌≤◌, ◌+◌, vec_len}
-use Rattle.mm_run.specs.Input.{rest, reach}
+use Rattle.mm_run.specs.Inside.Input.{rest, reach}
 use Rattle.mm_run.specs.Payloads.{payload_limit}
 use Rattle.mm_run.proofs.Gathering.{Gathers}
 use Rattle.mm_run.proofs.payload.next_payload.Given as goal

@@ -5,7 +5,7 @@ use Rattle.mm_tree.specs.Numbering.{Labelled, forest_of}
 use Rattle.mm_tree.specs.Fragments.{fragment_tree}
 use Rattle.mm_run.specs.Answers.{fragments_of}
 use Rattle.mm_run.specs.Steps.{fragments_cost}
-use Rattle.mm_run.specs.Told.{AreTold}
+use Rattle.mm_run.specs.Inside.Told.{AreTold}
 use Rattle.mm_run.proofs.searching.fragments_of.Given as goal
 
 -- the fragments so far are those of the first labels, and took their steps

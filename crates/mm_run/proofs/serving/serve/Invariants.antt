@@ -1,6 +1,6 @@
 use Rattle.std.proofs.Common.{◌≡◌}
 use Rattle.mm_tree.specs.Numbering.{forest_of}
-use Rattle.mm_run.specs.Input.{rest, reach}
+use Rattle.mm_run.specs.Inside.Input.{rest, reach}
 use Rattle.mm_run.specs.Inside.Turning.{State, Served}
 use Rattle.mm_run.specs.declared.status.Status.{Status}
 use Rattle.mm_run.proofs.serving.serve.Given as goal

@@ -1,6 +1,6 @@
 use Rattle.std.proofs.Common.{◌-◌, ◌≤◌, ◌+◌, take, drop, ap, sym, ◌∙◌, arith}
 use Rattle.std.proofs.lemmas.List.{length-take}
-use Rattle.mm_run.specs.Buffer.{Buffered}
+use Rattle.mm_run.specs.Inside.Buffer.{Buffered}
 use Rattle.mm_run.proofs.Kept.{window-split}
 use Rattle.mm_run.proofs.buffer.Buffer.take_line.Goals as goal
 

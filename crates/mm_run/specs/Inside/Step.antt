@@ -18,7 +18,7 @@ use Rattle.mm_run.specs.Lines.{lines, HasNoLineFeed}
 use Rattle.mm_run.specs.Forms.{form_of, quits, takes_payload}
 use Rattle.mm_run.specs.Payloads.{closes, unstopped}
 use Rattle.mm_run.specs.Commands.{Begun, grouped}
-use Rattle.mm_run.specs.Input.{Went}
+use Rattle.mm_run.specs.Inside.Input.{Went}
 
 -- how often the source has failed after a call, of how often before: once more only where its fault is the answer
 abbrev pub faults_after : {T : Type 0} → Result T ReadError → ℕ → ℕ

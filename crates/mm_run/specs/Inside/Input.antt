@@ -4,7 +4,7 @@ use Rattle.std.specs.declared.option.Option.{Option}
 use Rattle.std.specs.Io.KnownBytes.{prepend_known, IsAtEnd}
 use Rattle.mm_run.specs.declared.buffer.Supply.{Supply}
 use Rattle.mm_run.specs.declared.buffer.Supply.TheVariants.{Held, End, Full}
-use Rattle.mm_run.specs.Buffer.{Buffered}
+use Rattle.mm_run.specs.Inside.Buffer.{Buffered}
 use Rattle.mm_run.specs.Lines.{HasNoLineFeed}
 
 -- all that is still before the run, where the source tells it
