@@ -8,7 +8,7 @@ use Rattle.mm_tree.specs.declared.fragment.Fragment.TheViews.{out-Fragment}
 use Rattle.mm_tree.specs.declared.fragment.Fragment.TheFolds.{fold_out-Fragment}
 use Rattle.mm_tree.specs.Trees.{Trees, Tree, nodes, preorder}
 use Rattle.mm_tree.specs.Fragments.{Named, fragment_step, fragment_tree, fragment_trees}
-use Rattle.mm_command.specs.Replies.{told, shown_line, fragment_head, fragment_text}
+use Rattle.mm_command.specs.Replies.{shown_count, shown_line, fragment_head, fragment_text}
 use Rattle.mm_command.specs.Inside.Showing.{shown_of}
 
 pub tree_is : (f : Fragment) → fragment_tree f ≡ (shown_of f, fragment_trees (out-Fragment f).children)
@@ -66,11 +66,11 @@ pub lines_end : (xs : List Fragment) (i : ℕ) (written all : List ℕ) → leng
 lines_end xs i written all h same = sym (append-nil written) ∙ sym (ap (λ (zs : List Fragment). written ++ lines zs) (drop_all i xs h)) ∙ same
 
 -- its head, its root's line and the lines of its other nodes
-pub fragment_on : (f : Fragment) (inner : List Fragment) (below count : ℕ) (before one two all : List ℕ) → inner ≡ (out-Fragment f).children → below ≡ told (nodes (fragment_trees inner)) → count ≡ min (below + 1) limit
+pub fragment_on : (f : Fragment) (inner : List Fragment) (below count : ℕ) (before one two all : List ℕ) → inner ≡ (out-Fragment f).children → below ≡ shown_count (nodes (fragment_trees inner)) → count ≡ min (below + 1) limit
     → one ≡ before ++ fragment_head (out-Fragment f).label count → two ≡ one ++ shown_line (shown_of f) → all ≡ two ++ lines inner → all ≡ before ++ fragment_text (fragment_tree f)
 fragment_on f inner below count before one two all is b n o t a =
     let head = fragment_head (out-Fragment f).label count in
-    let told_is : count ≡ told (1 + nodes (fragment_trees inner) + 0) = omega (arith, b, n) in
+    let told_is : count ≡ shown_count (1 + nodes (fragment_trees inner) + 0) = omega (arith, b, n) in
     a ∙ ap (λ (l : List ℕ). l ++ lines inner) (t ∙ ap (λ (l : List ℕ). l ++ shown_line (shown_of f)) o)
     ∙ append_assoc (before ++ head) (shown_line (shown_of f)) (lines inner)
     ∙ append_assoc before head (shown_line (shown_of f) ++ lines inner)

@@ -11,7 +11,7 @@ use Rattle.mm_command.specs.declared.line.LineError.{LineError}
 use Rattle.std.specs.Borrow.{Bor}
 use Rattle.std.specs.Str.Pattern.{FindsChar, FindsCharPrefix, FindsCharSuffix}
 use Rattle.std.proofs.lemmas.Str.Pattern.{strip_prefix_char, strip_suffix_char, find_char}
-use Rattle.mm_command.specs.Lines.{after_spaces, before_spaces, onto_unless_space, is_space, is_printable, one_word, line_limit, is_text, line_of_text, line_of, Gives}
+use Rattle.mm_command.specs.Lines.{after_spaces, before_spaces, onto_unless_space, is_space, is_printable, one_word, line_limit, is_line_text, line_of_text, line_of, Gives}
 
 pub test-false : {P : Type 0} (test : Bool) → (test ≡ true → P) → ¬ P → test ≡ false
 test-false true holds fails = absurd (fails (holds refl))
@@ -62,8 +62,8 @@ pub is_read : (line text : List ℕ) (result : Result Line LineError) → text �
     → Gives result (line_of_text text) → Gives result (line_of line)
 unfolding line_of
 is_read line text result is short printable utf8 gives =
-    let all : is_text text ≡ true = all-three (le-leb (length text) line_limit short) printable (is_utf8-from_IsUtf8 text utf8) in
-    subst (λ (o : Option Line). Gives result o) (sym (ap (λ t. cond (is_text t) (line_of_text t) None) (sym is) ∙ ap (λ b. cond b (line_of_text text) None) all)) gives
+    let all : is_line_text text ≡ true = all-three (le-leb (length text) line_limit short) printable (is_utf8-from_IsUtf8 text utf8) in
+    subst (λ (o : Option Line). Gives result o) (sym (ap (λ t. cond (is_line_text t) (line_of_text t) None) (sym is) ∙ ap (λ b. cond b (line_of_text text) None) all)) gives
 
 none-of-three : (a b : Bool) → (a && (b && false)) ≡ false
 none-of-three true true = refl
@@ -74,5 +74,5 @@ pub is_no_text : (line text : List ℕ) → text ≡ strip_last 13 line → ¬ (
 unfolding line_of
 is_no_text line text is other =
     let none : is_utf8 text ≡ false = false_from_ne_true (is_utf8 text) (λ t. other (IsUtf8-from_is_utf8 text t)) in
-    let fails : is_text text ≡ false = ap (λ b. nat_le (length text) line_limit && (list_all is_printable text && b)) none ∙ none-of-three (nat_le (length text) line_limit) (list_all is_printable text) in
-    ap (λ t. cond (is_text t) (line_of_text t) None) (sym is) ∙ ap (λ b. cond b (line_of_text text) None) fails
+    let fails : is_line_text text ≡ false = ap (λ b. nat_le (length text) line_limit && (list_all is_printable text && b)) none ∙ none-of-three (nat_le (length text) line_limit) (list_all is_printable text) in
+    ap (λ t. cond (is_line_text t) (line_of_text t) None) (sym is) ∙ ap (λ b. cond b (line_of_text text) None) fails

@@ -93,12 +93,12 @@ abbrev pub line_of_text : List ℕ → Option Line
 line_of_text text = line_by (first_word (before_spaces (after_spaces text))) (behind (before_spaces (after_spaces text)))
 
 -- at most 65,536 bytes in UTF-8 without control characters
-abbrev pub is_text : List ℕ → Bool
-is_text text = nat_le (length text) line_limit && (list_all is_printable text && is_utf8 text)
+abbrev pub is_line_text : List ℕ → Bool
+is_line_text text = nat_le (length text) line_limit && (list_all is_printable text && is_utf8 text)
 
 -- What a line asks for, or None where it is in no form. It loses one carriage return (13) at its end.
 unfoldable pub line_of : List ℕ → Option Line
-line_of line = let text = strip_last 13 line in if is_text text then line_of_text text else None
+line_of line = let text = strip_last 13 line in if is_line_text text then line_of_text text else None
 
 -- what was asked for, or that nothing was, unless memory ran out
 abbrev pub Gives : {A : Type 0} → Result A LineError → Option A → Type 0

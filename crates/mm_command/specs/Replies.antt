@@ -22,13 +22,13 @@ abbrev pub done_text : List ℤ → ℕ → List ℕ
 done_text label count = codes "ok " ++ (text_of label ++ 32 ∷ (decimal count ++ 10 ∷ []))
 
 -- a number, as far as 64 bits hold it
-abbrev pub told : ℕ → ℕ
-told n = min n (2 ^ 64 - 1)
+abbrev pub shown_count : ℕ → ℕ
+shown_count n = min n (2 ^ 64 - 1)
 
 -- `tree`, the node's label and the number of nodes, and a line with the XML of the node
 abbrev pub tree_text : Tree Labelled → List ℕ
 tree_text t =
-    codes "tree " ++ (text_of t.0.label ++ 32 ∷ (decimal (told (nodes (one t))) ++ 10 ∷ (written (without_labels (one t)) ++ 10 ∷ [])))
+    codes "tree " ++ (text_of t.0.label ++ 32 ∷ (decimal (shown_count (nodes (one t))) ++ 10 ∷ (written (without_labels (one t)) ++ 10 ∷ [])))
 
 -- a label and a name
 abbrev pub hit_line : Hit → List ℕ
@@ -51,7 +51,7 @@ fragment_head label count = codes "fragment " ++ (text_of label ++ 32 ∷ (decim
 
 -- its head, and a line for each node in document order
 abbrev pub fragment_text : Tree Named → List ℕ
-fragment_text t = fragment_head t.0.label (told (nodes (one t))) ++ flat_map shown_line (preorder (one t))
+fragment_text t = fragment_head t.0.label (shown_count (nodes (one t))) ++ flat_map shown_line (preorder (one t))
 
 -- `fragments` and their number, and each of them
 abbrev pub fragments_text : List (Tree Named) → List ℕ

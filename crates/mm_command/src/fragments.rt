@@ -3,7 +3,7 @@ ghost use Rattle.std.specs.Prelude.{◌≡◌, ◌++◌, IfOk, OnOk, map};
 ghost use Rattle.std.specs.List.{flat_map};
 ghost use Rattle.mm_tree.specs.Trees.{nodes, preorder};
 ghost use Rattle.mm_tree.specs.Fragments.{fragment_tree, fragment_trees};
-ghost use Rattle.mm_command.specs.Replies.{told, word_after_space, shown_line, fragment_head, fragment_text, fragments_text};
+ghost use Rattle.mm_command.specs.Replies.{shown_count, word_after_space, shown_line, fragment_head, fragment_text, fragments_text};
 ghost use Rattle.mm_command.specs.Inside.Showing.{shown_of};
 
 use mm_label::Label;
@@ -13,7 +13,7 @@ use std::alloc::{AllocError, Global};
 
 /// How many nodes the fragments have, as far as the number fits.
 fn nodes_in(fragments: &[Fragment]) -> u64
-    ensures { result ≡ told (nodes (fragment_trees fragments.now)) }
+    ensures { result ≡ shown_count (nodes (fragment_trees fragments.now)) }
 {
     let mut sum: u64 = 0;
     for fragment in fragments {

@@ -13,22 +13,22 @@ use Rattle.mm_label.specs.Facts.Order.{same_label, label_same, label_other}
 use Rattle.mm_tree.specs.Facts.Places.{node_under, node_apart}
 use Rattle.mm_label.specs.Facts.Members.{within_joined, within_first, within_second}
 
-has_in : (f : Trees Labelled) (e : Labelled) → Within e (preorder f) → edits.has e.label f ≡ true
+has_in : (f : Trees Labelled) (e : Labelled) → Within e (preorder f) → edits.has_node e.label f ≡ true
 has_in none e w = absurd w
 has_in (node d inner rest) e w = elim w [
-  | inl k ↦ ap (λ (t : Bool). t || (edits.has e.label inner || edits.has e.label rest)) (label_same d.label e.label (ap node_label (sym k)))
-  | inr k ↦ or_right (has_label e.label d) (edits.has e.label inner || edits.has e.label rest) (elim (within_joined e (preorder inner) (preorder rest) k) [
-    | inl h ↦ ap (λ (t : Bool). t || edits.has e.label rest) (has_in inner e h)
-    | inr h ↦ or_right (edits.has e.label inner) (edits.has e.label rest) (has_in rest e h)
+  | inl k ↦ ap (λ (t : Bool). t || (edits.has_node e.label inner || edits.has_node e.label rest)) (label_same d.label e.label (ap node_label (sym k)))
+  | inr k ↦ or_right (has_label e.label d) (edits.has_node e.label inner || edits.has_node e.label rest) (elim (within_joined e (preorder inner) (preorder rest) k) [
+    | inl h ↦ ap (λ (t : Bool). t || edits.has_node e.label rest) (has_in inner e h)
+    | inr h ↦ or_right (edits.has_node e.label inner) (edits.has_node e.label rest) (has_in rest e h)
   ])
 ]
 
-in_has : (f : Trees Labelled) (x : Label) → edits.has x f ≡ true → (e : Labelled) × Within e (preorder f) × (e.label ≡ x)
+in_has : (f : Trees Labelled) (x : Label) → edits.has_node x f ≡ true → (e : Labelled) × Within e (preorder f) × (e.label ≡ x)
 in_has none x h = absurd cc
-in_has (node d inner rest) x h = by (has_label x d) refl (edits.has x inner) refl h (in_has inner x) (in_has rest x)
+in_has (node d inner rest) x h = by (has_label x d) refl (edits.has_node x inner) refl h (in_has inner x) (in_has rest x)
   where
-    by : (a : Bool) → has_label x d ≡ a → (b : Bool) → edits.has x inner ≡ b → (a || (b || edits.has x rest)) ≡ true
-        → (edits.has x inner ≡ true → (e : Labelled) × Within e (preorder inner) × (e.label ≡ x)) → (edits.has x rest ≡ true → (e : Labelled) × Within e (preorder rest) × (e.label ≡ x))
+    by : (a : Bool) → has_label x d ≡ a → (b : Bool) → edits.has_node x inner ≡ b → (a || (b || edits.has_node x rest)) ≡ true
+        → (edits.has_node x inner ≡ true → (e : Labelled) × Within e (preorder inner) × (e.label ≡ x)) → (edits.has_node x rest ≡ true → (e : Labelled) × Within e (preorder rest) × (e.label ≡ x))
         → (e : Labelled) × Within e (preorder (node d inner rest)) × (e.label ≡ x)
     by true p b q h i r = (d, inl refl, same_label d.label x p)
     by false p true q h i r = let t = i q in (t.0, inr (within_first t.0 (preorder inner) (preorder rest) t.1), t.2)
@@ -40,7 +40,7 @@ node_found y none e u w = absurd w
 node_found y (node d inner rest) e u w = elim w [
   | inl k ↦ (
     inner,
-    ap (λ (t : Bool). cond t (Some (d, inner)) (cond (edits.has e.label inner) (found e.label inner) (found e.label rest))) (label_same d.label e.label (ap node_label (sym k)))
+    ap (λ (t : Bool). cond t (Some (d, inner)) (cond (edits.has_node e.label inner) (found e.label inner) (found e.label rest))) (label_same d.label e.label (ap node_label (sym k)))
         ∙ ap (λ (n : Labelled). Some (n, inner)) (sym k),
   )
   | inr k ↦ elim (within_joined e (preorder inner) (preorder rest) k) [
@@ -51,14 +51,14 @@ node_found y (node d inner rest) e u w = elim w [
     | inr h ↦
         let a = node_apart node_label d.label y rest e u.3 u.2 h in
         let t = node_found y rest e u.3 h in
-        (t.0, past (λ q. a.1 (subst (Front d.label) q (front_refl d.label))) ∙ (ap (λ (b : Bool). cond b (found e.label inner) (found e.label rest)) (not_inside a (edits.has e.label inner) refl) ∙ t.1))
+        (t.0, past (λ q. a.1 (subst (Front d.label) q (front_refl d.label))) ∙ (ap (λ (b : Bool). cond b (found e.label inner) (found e.label rest)) (not_inside a (edits.has_node e.label inner) refl) ∙ t.1))
   ]
 ]
   where
-    past : (d.label ≡ e.label → ⊥) → found e.label (node d inner rest) ≡ cond (edits.has e.label inner) (found e.label inner) (found e.label rest)
-    past n = ap (λ (t : Bool). cond t (Some (d, inner)) (cond (edits.has e.label inner) (found e.label inner) (found e.label rest))) (label_other d.label e.label n)
+    past : (d.label ≡ e.label → ⊥) → found e.label (node d inner rest) ≡ cond (edits.has_node e.label inner) (found e.label inner) (found e.label rest)
+    past n = ap (λ (t : Bool). cond t (Some (d, inner)) (cond (edits.has_node e.label inner) (found e.label inner) (found e.label rest))) (label_other d.label e.label n)
 
-    not_inside : Apart d.label e.label → (t : Bool) → edits.has e.label inner ≡ t → t ≡ false
+    not_inside : Apart d.label e.label → (t : Bool) → edits.has_node e.label inner ≡ t → t ≡ false
     not_inside a true q = let k = in_has inner e.label q in absurd (a.1 (subst (Front d.label) k.2 (node_under node_label d.label inner k.0 u.1 k.1).0))
     not_inside a false q = refl
 
@@ -75,7 +75,7 @@ some_same u v e = cc
 
 pub found_is : (y x : Label) (f : Trees Labelled) (t : Tree Labelled) → whole y ≡ y → Formed node_label y f → found x f ≡ Some t → IsFound x f t
 found_is y x none t v u h = absurd cc
-found_is y x (node e inner rest) t v u h = by (has_label x e) refl (edits.has x inner) h (λ k. found_is e.label x inner t u.0.is_whole u.1 k) (λ k. found_is y x rest t v u.3 k)
+found_is y x (node e inner rest) t v u h = by (has_label x e) refl (edits.has_node x inner) h (λ k. found_is e.label x inner t u.0.is_whole u.1 k) (λ k. found_is y x rest t v u.3 k)
   where
     inner_in : (d : Labelled) → Within d (preorder inner) → Within d (preorder (node e inner rest))
     inner_in d w = inr (within_first d (preorder inner) (preorder rest) w)

@@ -139,7 +139,7 @@ some_same u v e = cc
 
 found_stands : (x : Label) (f : Trees Labelled) (t : Tree Labelled) → found x f ≡ Some t → Stands t.0 t.1 f
 found_stands x none t h = absurd cc
-found_stands x (node e inner rest) t h = by (has_label x e) (edits.has x inner) h (found_stands x inner t) (found_stands x rest t)
+found_stands x (node e inner rest) t h = by (has_label x e) (edits.has_node x inner) h (found_stands x inner t) (found_stands x rest t)
   where
     by : (a b : Bool) → cond a (Some (e, inner)) (cond b (found x inner) (found x rest)) ≡ Some t → (found x inner ≡ Some t → Stands t.0 t.1 inner) → (found x rest ≡ Some t → Stands t.0 t.1 rest) → Stands t.0 t.1 (node e inner rest)
     by true b h p q = let s = some_same (e, inner) t h in inl (sym (ap (λ (u : Tree Labelled). u.0) s), sym (ap (λ (u : Tree Labelled). u.1) s))

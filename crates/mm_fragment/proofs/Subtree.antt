@@ -123,10 +123,10 @@ found_at y x (node e inner rest) t g h = by (has_label x e) refl h (λ k. found_
     same : (u v : Tree Labelled) → Some u ≡ Some v → u ≡ v
     same u v e = cc
 
-    by : (b : Bool) → has_label x e ≡ b → (if b then Some (e, inner) else (if edits.has x inner then found x inner else found x rest)) ≡ Some t → (found x inner ≡ Some t → IsAt x (worded inner) (worded_as t.0) (worded t.1))
+    by : (b : Bool) → has_label x e ≡ b → (if b then Some (e, inner) else (if edits.has_node x inner then found x inner else found x rest)) ≡ Some t → (found x inner ≡ Some t → IsAt x (worded inner) (worded_as t.0) (worded t.1))
         → (found x rest ≡ Some t → IsAt x (worded rest) (worded_as t.0) (worded t.1)) → IsAt x (worded (node e inner rest)) (worded_as t.0) (worded t.1)
     by true k h p q =
         subst (λ (u : Tree Labelled). IsAt x (worded (node e inner rest)) (worded_as u.0) (worded u.1)) (same (e, inner) t h)
         (subst (λ (z : Label). IsAt z (worded (node e inner rest)) (worded_as e) (worded inner)) (same_label e.label x k)
         (here_at y (worded_as e) (worded inner) (worded rest) g))
-    by false k h p q = deeper (edits.has x inner) h p q
+    by false k h p q = deeper (edits.has_node x inner) h p q

@@ -21,7 +21,7 @@ use Rattle.mm_words.specs.declared.error.QueryError.TheVariants as query
 use Rattle.mm_tree.specs.declared.forest.place.Place.{Place}
 use Rattle.mm_tree.specs.declared.refusal.Refusal.TheVariants as refusal
 use Rattle.mm_tree.specs.Edits.{found, subtree_size, delete, delete_refusal}
-use Rattle.mm_command.specs.Replies.{told}
+use Rattle.mm_command.specs.Replies.{shown_count}
 
 -- both of two answers are one
 abbrev Same : (r s : List ℕ) (f g : Trees Labelled) → Type 0
@@ -99,8 +99,8 @@ module _ (one_tree : (bytes : List ℕ) (t u : Tree Kind) → Spells bytes t →
 
   delete-once : (text : List ℕ) (forest : Trees Labelled) (r s : List ℕ) (f g : Trees Labelled) → AnswersDelete text forest r f → AnswersDelete text forest s g → Same r s f g
   delete-once text forest r s f g a b =
-      label-once text (λ x t h. AnswersEdit (delete_refusal x forest) x (told (subtree_size x forest)) (delete x forest) forest t h) forest r s f g
-      (λ x. edit-once (delete_refusal x forest) x (told (subtree_size x forest)) (delete x forest) forest r s f g) a b
+      label-once text (λ x t h. AnswersEdit (delete_refusal x forest) x (shown_count (subtree_size x forest)) (delete x forest) forest t h) forest r s f g
+      (λ x. edit-once (delete_refusal x forest) x (shown_count (subtree_size x forest)) (delete x forest) forest r s f g) a b
 
   show-once : (text : List ℕ) (forest : Trees Labelled) (r s : List ℕ) (f g : Trees Labelled) → AnswersShow text forest r f → AnswersShow text forest s g → Same r s f g
   show-once text forest r s f g a b = label-once text (λ x t h. AnswersFound (found x forest) forest t h) forest r s f g (λ x. found-once (found x forest) forest r s f g) a b

@@ -6,7 +6,7 @@ use Rattle.mm_tree.specs.declared.refusal.Refusal.{Refusal}
 use Rattle.mm_tree.specs.declared.refusal.Refusal.TheVariants.{Absent, Leaf, Xml, Deep}
 use Rattle.mm_tree.specs.Trees.{Trees, Tree, one, nodes, levels}
 use Rattle.mm_tree.specs.Numbering.{Labelled}
-use Rattle.mm_tree.specs.Edits.{found, has, is_inside, is_text}
+use Rattle.mm_tree.specs.Edits.{found, has_node, is_inside, is_text_node}
 use Rattle.mm_xml.specs.Grammar.{Spells}
 use Rattle.mm_run.specs.declared.editing.Edit.{Edit}
 use Rattle.mm_run.specs.declared.editing.Edit.TheVariants.{Load, Insert, Replace}
@@ -26,8 +26,8 @@ twice false false why = refl
 
 target-first : (edit : Edit) (forest : Trees Labelled) (t : Tree Kind) → first_cause (planned edit forest).target ((planned edit forest).refusal t) ≡ (planned edit forest).refusal t
 target-first Load forest t = refl
-target-first (Insert place x) forest t = twice (not (has x forest)) (is_inside place && is_text (found x forest)) _
-target-first (Replace x) forest t = twice-absent (not (has x forest)) _
+target-first (Insert place x) forest t = twice (not (has_node x forest)) (is_inside place && is_text_node (found x forest)) _
+target-first (Replace x) forest t = twice-absent (not (has_node x forest)) _
 
 shallow-refusal : (edit : Edit) (forest : Trees Labelled) (t : Tree Kind) → levels (one t) ≤ 200 → tree_refusal (planned edit forest) t ≡ (planned edit forest).refusal t
 shallow-refusal edit forest t shallow =

@@ -19,7 +19,7 @@ use Rattle.mm_words.specs.declared.error.QueryError.TheVariants as query
 use Rattle.mm_tree.specs.declared.forest.place.Place.{Place}
 use Rattle.mm_tree.specs.declared.refusal.Refusal.TheVariants as refusal
 use Rattle.mm_tree.specs.Edits.{found, subtree_size, delete, delete_refusal}
-use Rattle.mm_command.specs.Replies.{refused_text, done_text, tree_text, told}
+use Rattle.mm_command.specs.Replies.{refused_text, done_text, tree_text, shown_count}
 
 -- some reply and some forest after are answers
 abbrev Has : (List ℕ → Trees Labelled → Type 0) → Type 0
@@ -96,8 +96,8 @@ of-line line.Blank p forest tree label = shown forest []
 of-line line.Load p forest tree label = loaded p forest tree
 of-line (line.Insert place text) p forest tree label = inserted place text p forest tree label
 of-line (line.Delete text) p forest tree label =
-    with-label text (λ x. AnswersEdit (delete_refusal x forest) x (told (subtree_size x forest)) (delete x forest) forest) forest
-    (λ x. edited (delete_refusal x forest) x (told (subtree_size x forest)) (delete x forest) forest) label
+    with-label text (λ x. AnswersEdit (delete_refusal x forest) x (shown_count (subtree_size x forest)) (delete x forest) forest) forest
+    (λ x. edited (delete_refusal x forest) x (shown_count (subtree_size x forest)) (delete x forest) forest) label
 of-line (line.Replace text) p forest tree label = replaced text p forest tree label
 of-line (line.Search find text) p forest tree label =
     searched (query_refusal (query_words text)) (found_text find (query_words text) forest (roots find (query_words text) forest)) forest (refusal-known (query_words text))

@@ -15,7 +15,7 @@ use Rattle.mm_tree.specs.declared.refusal.Refusal.TheVariants as refusal
 use Rattle.mm_tree.specs.Trees.{Trees, Tree, one, nodes, levels}
 use Rattle.mm_tree.specs.Numbering.{Labelled}
 use Rattle.mm_tree.specs.Forests.{next_label, load, load_refusal}
-use Rattle.mm_tree.specs.Edits.{found, has, is_inside, is_text, subtree_size, inserted_label, insert, insert_refusal, delete, delete_refusal, replace, replace_refusal}
+use Rattle.mm_tree.specs.Edits.{found, has_node, is_inside, is_text_node, subtree_size, inserted_label, insert, insert_refusal, delete, delete_refusal, replace, replace_refusal}
 use Rattle.mm_tree.specs.Search.{worded, slca}
 use Rattle.mm_tree.specs.Elca.{elca}
 use Rattle.mm_tree.specs.Hits.{hits_of}
@@ -26,7 +26,7 @@ use Rattle.mm_command.specs.declared.line.Line.{Line}
 use Rattle.mm_command.specs.declared.line.Line.TheVariants as line
 use Rattle.mm_command.specs.declared.line.Find.{Find}
 use Rattle.mm_command.specs.declared.line.Find.TheVariants as find
-use Rattle.mm_command.specs.Replies.{refused_text, done_text, hits_text, fragments_text, tree_text, told}
+use Rattle.mm_command.specs.Replies.{refused_text, done_text, hits_text, fragments_text, tree_text, shown_count}
 use Rattle.mm_run.specs.Forms.{Form}
 use Rattle.mm_run.specs.declared.command.Command.{Command}
 use Rattle.mm_run.specs.declared.command.Payload.{Payload}
@@ -95,7 +95,7 @@ planned_load forest = record {
 -- no node has the label, or a text would get a child
 abbrev pub target_refusal : Place → List ℤ → Trees Labelled → Option Refusal
 target_refusal place x forest =
-    if not (has x forest) then Some refusal.Absent else (if is_inside place && is_text (found x forest) then Some refusal.Leaf else None)
+    if not (has_node x forest) then Some refusal.Absent else (if is_inside place && is_text_node (found x forest) then Some refusal.Leaf else None)
 
 abbrev pub planned_insert : Place → List ℤ → Trees Labelled → Planned
 planned_insert place x forest = record {
@@ -143,7 +143,7 @@ AnswersReplace text (payload.Whole bytes) forest reply after =
 
 abbrev pub AnswersDelete : List ℕ → Trees Labelled → List ℕ → Trees Labelled → Type 0
 AnswersDelete text forest reply after =
-    AnswersLabel text (λ x. AnswersEdit (delete_refusal x forest) x (told (subtree_size x forest)) (delete x forest) forest reply after) (Refuses forest refusal.Label reply after)
+    AnswersLabel text (λ x. AnswersEdit (delete_refusal x forest) x (shown_count (subtree_size x forest)) (delete x forest) forest reply after) (Refuses forest refusal.Label reply after)
 
 abbrev pub AnswersFound : Option (Tree Labelled) → Trees Labelled → List ℕ → Trees Labelled → Type 0
 AnswersFound None forest reply after = Refuses forest refusal.Absent reply after

@@ -1,3 +1,4 @@
+-- What private contracts and proofs speak of.
 pub mod Turning
 pub mod Step
 pub mod Input

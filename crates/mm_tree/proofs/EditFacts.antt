@@ -17,7 +17,7 @@ use Rattle.mm_tree.specs.Trees.{Trees, none, node, Tree, one, every, nodes, leve
 use Rattle.mm_tree.specs.Validity.{is_element, is_valid_kind, is_valid_node, is_valid_tree}
 use Rattle.mm_tree.specs.Numbering.{Labelled, node_of, forest_of, number, fits, has_room, Labels, Numbers}
 use Rattle.mm_tree.specs.Forests.{are_labelled, has_valid_kind, are_elements, is_well_formed, IsRefusal}
-use Rattle.mm_tree.specs.Edits.{has_label, has, found, is_text, size_of, subtree_size, Change, taken_out, put_instead, put, edit, Gap, gap_at, gap, left_segment, right_segment, label_in, inserted_label, insert, delete, replace, is_inside, room_refusal, placed_refusal, insert_refusal, delete_refusal, replace_refusal}
+use Rattle.mm_tree.specs.Edits.{has_label, has_node, found, is_text_node, size_of, subtree_size, Change, taken_out, put_instead, put, edit, Gap, gap_at, gap, left_segment, right_segment, label_in, inserted_label, insert, delete, replace, is_inside, room_refusal, placed_refusal, insert_refusal, delete_refusal, replace_refusal}
 use Rattle.mm_tree.specs.Inside.Ways.{leads_to, found_down, edit_down, gap_down, IsOpen}
 use Rattle.mm_tree.proofs.NumberForm.{number_form, valid_numbered}
 use Rattle.mm_tree.specs.Facts.Formed.{parts}
@@ -34,8 +34,8 @@ use Rattle.mm_tree.proofs.OpenFacts.{gap_open}
 down_is : (x : List ℤ) (forest : Trees Labelled) → is_well_formed forest ≡ true → found_down x forest ≡ found x forest
 down_is x forest w = found_is x [] None forest (labels_of forest w)
 
-pub absent_by : (x : List ℤ) (forest : Trees Labelled) → is_well_formed forest ≡ true → found_down x forest ≡ None → has x forest ≡ false
-absent_by x forest w h = by_test (has x forest) (λ k. is_found x forest k (sym (down_is x forest w) ∙ h))
+pub absent_by : (x : List ℤ) (forest : Trees Labelled) → is_well_formed forest ≡ true → found_down x forest ≡ None → has_node x forest ≡ false
+absent_by x forest w h = by_test (has_node x forest) (λ k. is_found x forest k (sym (down_is x forest w) ∙ h))
   where
     by_test : (b : Bool) → (b ≡ true → true ≡ false) → b ≡ false
     by_test true f = f refl
@@ -44,18 +44,18 @@ absent_by x forest w h = by_test (has x forest) (λ k. is_found x forest k (sym 
 pub found_by : (x : List ℤ) (forest : Trees Labelled) (n : Tree Labelled) → is_well_formed forest ≡ true → found_down x forest ≡ Some n → found x forest ≡ Some n
 found_by x forest n w h = sym (down_is x forest w) ∙ h
 
-pub present_by : (x : List ℤ) (forest : Trees Labelled) (n : Tree Labelled) → is_well_formed forest ≡ true → found_down x forest ≡ Some n → has x forest ≡ true
+pub present_by : (x : List ℤ) (forest : Trees Labelled) (n : Tree Labelled) → is_well_formed forest ≡ true → found_down x forest ≡ Some n → has_node x forest ≡ true
 present_by x forest n w h = present x forest n (found_by x forest n w h)
 
 pub gap_by : (p : Place) (x : List ℤ) (forest : Trees Labelled) (g : Gap) → is_well_formed forest ≡ true → gap_down p x [] None forest ≡ Some g → gap p x [] None forest ≡ g
-gap_by p x forest g w h = by_test (has x forest) (sym (gap_is p x [] None None forest (labels_of forest w)) ∙ h)
+gap_by p x forest g w h = by_test (has_node x forest) (sym (gap_is p x [] None None forest (labels_of forest w)) ∙ h)
   where
     by_test : (b : Bool) → (if b then Some (gap p x [] None forest) else None) ≡ Some g → gap p x [] None forest ≡ g
     by_test true h = cc
     by_test false h = absurd cc
 
-pub no_gap_by : (p : Place) (x : List ℤ) (forest : Trees Labelled) → is_well_formed forest ≡ true → gap_down p x [] None forest ≡ None → has x forest ≡ false
-no_gap_by p x forest w h = by_test (has x forest) (sym (gap_is p x [] None None forest (labels_of forest w)) ∙ h)
+pub no_gap_by : (p : Place) (x : List ℤ) (forest : Trees Labelled) → is_well_formed forest ≡ true → gap_down p x [] None forest ≡ None → has_node x forest ≡ false
+no_gap_by p x forest w h = by_test (has_node x forest) (sym (gap_is p x [] None None forest (labels_of forest w)) ∙ h)
   where
     by_test : (b : Bool) → (if b then Some (gap p x [] None forest) else None) ≡ None → b ≡ false
     by_test true h = absurd cc
@@ -66,20 +66,20 @@ open_by p x forest g w h = gap_open p x [] None forest g (inl refl) tt (labels_o
 
 -- ---- refusals of an insertion
 
-pub absent_insert : (p : Place) (x : List ℤ) (t : Tree Kind) (forest : Trees Labelled) → has x forest ≡ false → insert_refusal p x t forest ≡ Some Absent
+pub absent_insert : (p : Place) (x : List ℤ) (t : Tree Kind) (forest : Trees Labelled) → has_node x forest ≡ false → insert_refusal p x t forest ≡ Some Absent
 absent_insert p x t forest h = rw h refl
 
-text_is : (p : Place) (n : Node) (r : Option (Tree Labelled)) → r ≡ Some (node_of n) → (is_inside p && is_text r) ≡ (is_inside p && not (is_element (out-Node n).kind))
-text_is p n r e = ap (λ z. is_inside p && is_text z) (e ∙ ap (λ (z : Tree Labelled). Some z) (node_of_out n))
+text_is : (p : Place) (n : Node) (r : Option (Tree Labelled)) → r ≡ Some (node_of n) → (is_inside p && is_text_node r) ≡ (is_inside p && not (is_element (out-Node n).kind))
+text_is p n r e = ap (λ z. is_inside p && is_text_node z) (e ∙ ap (λ (z : Tree Labelled). Some z) (node_of_out n))
 
 pub childless_by : (p : Place) (x : List ℤ) (forest : Trees Labelled) (n : Node) (b : Bool) → is_well_formed forest ≡ true → found_down x forest ≡ Some (node_of n)
-    → b ≡ (is_inside p && not (is_element (out-Node n).kind)) → (is_inside p && is_text (found x forest)) ≡ b
+    → b ≡ (is_inside p && not (is_element (out-Node n).kind)) → (is_inside p && is_text_node (found x forest)) ≡ b
 childless_by p x forest n b w h k = text_is p n (found x forest) (found_by x forest (node_of n) w h) ∙ sym k
 
-pub leaf_insert : (p : Place) (x : List ℤ) (t : Tree Kind) (forest : Trees Labelled) → has x forest ≡ true → (is_inside p && is_text (found x forest)) ≡ true → insert_refusal p x t forest ≡ Some Leaf
+pub leaf_insert : (p : Place) (x : List ℤ) (t : Tree Kind) (forest : Trees Labelled) → has_node x forest ≡ true → (is_inside p && is_text_node (found x forest)) ≡ true → insert_refusal p x t forest ≡ Some Leaf
 leaf_insert p x t forest h k = rw (h, k) refl
 
-pub placed_insert : (p : Place) (x : List ℤ) (t : Tree Kind) (forest : Trees Labelled) (g : Gap) → has x forest ≡ true → (is_inside p && is_text (found x forest)) ≡ false → gap p x [] None forest ≡ g
+pub placed_insert : (p : Place) (x : List ℤ) (t : Tree Kind) (forest : Trees Labelled) (g : Gap) → has_node x forest ≡ true → (is_inside p && is_text_node (found x forest)) ≡ false → gap p x [] None forest ≡ g
     → insert_refusal p x t forest ≡ placed_refusal (level g.parent) (label_in g) t
 placed_insert p x t forest g h k e = rw (h, k) (ap (λ (z : Gap). placed_refusal (level z.parent) (label_in z) t) e)
 
@@ -202,7 +202,7 @@ pub record Inserting (p : Place) (x : List ℤ) (forest new : Trees Labelled) (t
   pub valid : is_valid_tree t ≡ true
   pub down : gap_down p x [] None forest ≡ Some g
   pub here : gap p x [] None forest ≡ g
-  pub childless : (is_inside p && is_text (found x forest)) ≡ false
+  pub childless : (is_inside p && is_text_node (found x forest)) ≡ false
   pub element : level g.parent ≡ 0 → is_element t.0 ≡ true
   pub levels_fit : level g.parent + levels (one t) ≤ 200
   pub label_is : label ≡ label_in g
@@ -247,7 +247,7 @@ module _ (p : Place) (x : List ℤ) (forest new : Trees Labelled) (t : Tree Kind
 
   target_is_element : is_inside p ≡ true → (e : Labelled) (inner : Trees Labelled) → found_down x forest ≡ Some (e, inner) → is_element e.kind ≡ true
   target_is_element i e inner h =
-      so_after_all (is_element e.kind) (ap (λ z. is_text z) (sym (found_by x forest (e, inner) s.well h)) ∙ second_so (is_inside p) (is_text (found x forest)) s.childless i)
+      so_after_all (is_element e.kind) (ap (λ z. is_text_node z) (sym (found_by x forest (e, inner) s.well h)) ∙ second_so (is_inside p) (is_text_node (found x forest)) s.childless i)
 
   form : Form (edit_down (put p (number (label_in g) t)) x forest)
   form =
@@ -280,10 +280,10 @@ deletion_formed x forest new w e =
       shallow = every_delete (is_shallow 200) x (λ e h. h) forest f.shallow;
     })
 
-pub absent_delete : (x : List ℤ) (forest : Trees Labelled) → has x forest ≡ false → delete_refusal x forest ≡ Some Absent
+pub absent_delete : (x : List ℤ) (forest : Trees Labelled) → has_node x forest ≡ false → delete_refusal x forest ≡ Some Absent
 absent_delete x forest h = rw h refl
 
-pub accepted_delete : (x : List ℤ) (forest : Trees Labelled) → has x forest ≡ true → delete_refusal x forest ≡ None
+pub accepted_delete : (x : List ℤ) (forest : Trees Labelled) → has_node x forest ≡ true → delete_refusal x forest ≡ None
 accepted_delete x forest h = rw h refl
 
 pub size_is : (x : List ℤ) (forest : Trees Labelled) (n : Node) (cs : List Node) (below both : ℕ) → found x forest ≡ Some (node_of n) → cs ≡ (out-Node n).children
@@ -299,7 +299,7 @@ size_is x forest n cs below both e c b d =
 pub record Replacing (x : List ℤ) (forest new : Trees Labelled) (t : Tree Kind) (u : Tree Labelled) (label : List ℤ) : Type 0 where
   pub well : is_well_formed forest ≡ true
   pub valid : is_valid_tree t ≡ true
-  pub there : has x forest ≡ true
+  pub there : has_node x forest ≡ true
   pub element : level x - 1 ≡ 0 → is_element t.0 ≡ true
   pub levels_fit : level x - 1 + levels (one t) ≤ 200
   pub label_is : label ≡ x
@@ -307,19 +307,19 @@ pub record Replacing (x : List ℤ) (forest new : Trees Labelled) (t : Tree Kind
   pub below_fits : every has_room (number label t).1 ≡ true
   pub edited : new ≡ edit_down (put_instead u) x forest
 
-pub fits_there : (x : List ℤ) (ts : Trees Labelled) → every has_room ts ≡ true → has x ts ≡ true → fits x ≡ true
+pub fits_there : (x : List ℤ) (ts : Trees Labelled) → every has_room ts ≡ true → has_node x ts ≡ true → fits x ≡ true
 fits_there x none r h = absurd cc
 fits_there x (node e inner rest) r h =
     let p = and_parts (fits e.label) (every has_room inner && every has_room rest) r in
     let q = and_parts (every has_room inner) (every has_room rest) p.1 in
-    by_tests (has_label x e) (has x inner) h (λ k. ap (λ z. fits z) (sym (label_is x e k)) ∙ p.0) (fits_there x inner q.0) (fits_there x rest q.1)
+    by_tests (has_label x e) (has_node x inner) h (λ k. ap (λ z. fits z) (sym (label_is x e k)) ∙ p.0) (fits_there x inner q.0) (fits_there x rest q.1)
   where
-    by_tests : (a b : Bool) → (a || (b || has x rest)) ≡ true → (a ≡ true → fits x ≡ true) → (b ≡ true → fits x ≡ true) → (has x rest ≡ true → fits x ≡ true) → fits x ≡ true
+    by_tests : (a b : Bool) → (a || (b || has_node x rest)) ≡ true → (a ≡ true → fits x ≡ true) → (b ≡ true → fits x ≡ true) → (has_node x rest ≡ true → fits x ≡ true) → fits x ≡ true
     by_tests true b h i j k = i refl
     by_tests false true h i j k = j refl
     by_tests false false h i j k = k h
 
-some_level : (x : List ℤ) (forest : Trees Labelled) → is_well_formed forest ≡ true → has x forest ≡ true → 1 ≤ level x
+some_level : (x : List ℤ) (forest : Trees Labelled) → is_well_formed forest ≡ true → has_node x forest ≡ true → 1 ≤ level x
 some_level x forest w h =
     let u = within [] None forest x (labels_of forest w) h in
     omega (arith, ap (λ z. level z) u.is, level_append u.segment u.more, one_level u.segment u.whole)
@@ -353,10 +353,10 @@ module _ (x : List ℤ) (forest new : Trees Labelled) (t : Tree Kind) (u : Tree 
         shallow = every_replace (is_shallow 200) x r (λ e h. h) (number_shallow 200 x t (omega (arith, some_level x forest s.well s.there, s.levels_fit))) forest f.shallow;
       })
 
-pub absent_replace : (x : List ℤ) (t : Tree Kind) (forest : Trees Labelled) → has x forest ≡ false → replace_refusal x t forest ≡ Some Absent
+pub absent_replace : (x : List ℤ) (t : Tree Kind) (forest : Trees Labelled) → has_node x forest ≡ false → replace_refusal x t forest ≡ Some Absent
 absent_replace x t forest h = rw h refl
 
-placed_replace : (x : List ℤ) (t : Tree Kind) (forest : Trees Labelled) → has x forest ≡ true → replace_refusal x t forest ≡ placed_refusal (level x - 1) x t
+placed_replace : (x : List ℤ) (t : Tree Kind) (forest : Trees Labelled) → has_node x forest ≡ true → replace_refusal x t forest ≡ placed_refusal (level x - 1) x t
 placed_replace x t forest h = rw h refl
 
 -- where the target is there, what is left is whether the tree may stand there

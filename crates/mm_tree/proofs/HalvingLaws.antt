@@ -15,7 +15,7 @@ use Rattle.mm_tree.specs.declared.node.Node.TheViews.{out-Node}
 use Rattle.mm_tree.specs.Trees.{Trees, node, Tree}
 use Rattle.mm_tree.specs.Numbering.{Labelled, node_of, forest_of}
 use Rattle.mm_tree.specs.Forests.{segment_below, is_before, are_labelled}
-use Rattle.mm_tree.specs.Edits.{has}
+use Rattle.mm_tree.specs.Edits.{has_node}
 use Rattle.mm_tree.specs.Inside.Ways.{AreSiblings, leads_to, found_down, is_passed}
 use Rattle.mm_tree.specs.Facts.Formed.{front_splits, parts}
 use Rattle.mm_tree.proofs.OrderLaws.{Under, rises_more, before_is, side_after}
@@ -158,7 +158,7 @@ none_behind x y left e inner rest l off f =
     let s = segment_below y e.label in
     let p = parts y left e inner rest l in
     let e_is : e.label ≡ y ++ s = front_splits y e.label p.front in
-    found_is x y (Some s) rest p.after ∙ not_found x rest (by_bool (has x rest) (λ k.
+    found_is x y (Some s) rest p.after ∙ not_found x rest (by_bool (has_node x rest) (λ k.
     let first : IsBefore e.label x = subst (λ (w : List ℤ). IsBefore w x) (ap (λ (w : List ℤ). y ++ w) (append-nil s) ∙ sym e_is) (side_after y s [] x p.whole (within y (Some s) rest x p.after k)) in
     sym (both_of (is_before e.label x) (leads_to x e) (ap is_lt first) off) ∙ f))
 

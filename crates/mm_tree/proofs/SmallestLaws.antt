@@ -279,17 +279,17 @@ rising query y left (node e inner rest) l =
 
 -- ---- the laws
 
-full_has : (query : List (List ℕ)) (ts : Trees Labelled) (x : List ℤ) → Within x (full_nodes query (worded ts)) → edits.has x ts ≡ true
+full_has : (query : List (List ℕ)) (ts : Trees Labelled) (x : List ℤ) → Within x (full_nodes query (worded ts)) → edits.has_node x ts ≡ true
 full_has query none x w = absurd w
 full_has query (node e inner rest) x w = elim (full_cases query (seen e) (worded inner) (worded rest) x w) [
-  | inl h ↦ ap (λ b. b || (edits.has x inner || edits.has x rest)) (is_label x e (sym h.1))
+  | inl h ↦ ap (λ b. b || (edits.has_node x inner || edits.has_node x rest)) (is_label x e (sym h.1))
   | inr v ↦ elim v [
-    | inl i ↦ ap (λ b. edits.has_label x e || (b || edits.has x rest)) (full_has query inner x i) ∙ or-true (edits.has_label x e)
-    | inr r ↦ ap (λ b. edits.has_label x e || (edits.has x inner || b)) (full_has query rest x r) ∙ ap (λ b. edits.has_label x e || b) (or-true (edits.has x inner)) ∙ or-true (edits.has_label x e)
+    | inl i ↦ ap (λ b. edits.has_label x e || (b || edits.has_node x rest)) (full_has query inner x i) ∙ or-true (edits.has_label x e)
+    | inr r ↦ ap (λ b. edits.has_label x e || (edits.has_node x inner || b)) (full_has query rest x r) ∙ ap (λ b. edits.has_label x e || b) (or-true (edits.has_node x inner)) ∙ or-true (edits.has_label x e)
   ]
 ]
 
-pub answers_are_nodes : (query : List (List ℕ)) (forest : Trees Labelled) (x : List ℤ) → Contains (slca query (worded forest)) x → edits.has x forest ≡ true
+pub answers_are_nodes : (query : List (List ℕ)) (forest : Trees Labelled) (x : List ℤ) → Contains (slca query (worded forest)) x → edits.has_node x forest ≡ true
 answers_are_nodes query forest x c = full_has query forest x (answer_full query (worded forest) x (within_of x _ c))
 
 pub full_nodes_have_answers : (query : List (List ℕ)) (forest : Trees Labelled) → is_well_formed forest ≡ true → (x : List ℤ) → Contains (full_nodes query (worded forest)) x → HasAnswer query (worded forest) x

@@ -11,7 +11,7 @@ use Rattle.mm_tree.specs.Trees.{Trees, Tree, one, every, levels}
 use Rattle.mm_tree.specs.Validity.{is_element, is_valid_node}
 use Rattle.mm_tree.specs.Numbering.{Labelled, number, fits, has_room}
 use Rattle.mm_tree.specs.Forests.{segment_below, are_labelled, is_well_formed, last_segment, numbered_behind}
-use Rattle.mm_tree.specs.Edits.{has, found, is_text, put, taken_out, put_instead, Gap, gap, left_segment, right_segment, inserted_label, is_inside, placed_refusal}
+use Rattle.mm_tree.specs.Edits.{has_node, found, is_text_node, put, taken_out, put_instead, Gap, gap, left_segment, right_segment, inserted_label, is_inside, placed_refusal}
 use Rattle.mm_tree.specs.Inside.Ways.{edit_down, gap_down, IsOpen}
 use Rattle.mm_tree.specs.Staying.{LoadStaysFormed, InsertStaysFormed, DeleteStaysFormed, ReplaceStaysFormed}
 use Rattle.mm_tree.proofs.WayLaws.{edit_is, gap_is, labels_of}
@@ -82,7 +82,7 @@ whole_neighbour y (Some l) h = (and_parts _ (is_segment (segment_below y l)) h).
 lies_open : Lies → (g : Gap) → IsOpen g → LiesBetween (left_segment g) (between (left_segment g) (right_segment g)) (right_segment g)
 lies_open lies g o = lies (left_segment g) (right_segment g) (whole_neighbour g.parent g.left o.left) (whole_neighbour g.parent g.right o.right) o.ordered
 
-gap_there : (p : Place) (x : List ℤ) (forest : Trees Labelled) → is_well_formed forest ≡ true → has x forest ≡ true → gap_down p x [] None forest ≡ Some (gap p x [] None forest)
+gap_there : (p : Place) (x : List ℤ) (forest : Trees Labelled) → is_well_formed forest ≡ true → has_node x forest ≡ true → gap_down p x [] None forest ≡ Some (gap p x [] None forest)
 gap_there p x forest w h = gap_is p x [] None None forest (labels_of forest w) ∙ ap (λ b. if b then Some (gap p x [] None forest) else None) h
 
 pub insert_stays : Lies → InsertStaysFormed
@@ -91,8 +91,8 @@ insert_stays lies p x t forest w v h =
     let label = inserted_label p x forest in
     let u = number label t in
     let new = edit_down (put p u) x forest in
-    let a = first_passed (not (has x forest)) Absent _ h in
-    let b = first_passed (is_inside p && is_text (found x forest)) Leaf _ a.1 in
+    let a = first_passed (not (has_node x forest)) Absent _ h in
+    let b = first_passed (is_inside p && is_text_node (found x forest)) Leaf _ a.1 in
     let q = placed (level g.parent) label t b.1 in
     let d = gap_there p x forest w (not_false _ a.0) in
     let s : Inserting p x forest new t u g label = record {
@@ -123,7 +123,7 @@ pub replace_stays : ReplaceStaysFormed
 replace_stays x t forest w v h =
     let u = number x t in
     let new = edit_down (put_instead u) x forest in
-    let a = first_passed (not (has x forest)) Absent _ h in
+    let a = first_passed (not (has_node x forest)) Absent _ h in
     let q = placed (level x - 1) x t a.1 in
     let s : Replacing x forest new t u x = record {
       well = w;

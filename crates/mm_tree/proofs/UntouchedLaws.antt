@@ -7,7 +7,7 @@ use Rattle.mm_tree.specs.declared.forest.place.Place.TheVariants.{Before, After,
 use Rattle.mm_tree.specs.Trees.{Trees, none, node, Tree, one, preorder}
 use Rattle.mm_tree.specs.Numbering.{Labelled, number}
 use Rattle.mm_tree.specs.Forests.{is_well_formed, and_then, numbered_behind}
-use Rattle.mm_tree.specs.Edits.{has_label, has, found, Change, taken_out, put_instead, put, edit, inserted_label}
+use Rattle.mm_tree.specs.Edits.{has_label, has_node, found, Change, taken_out, put_instead, put, edit, inserted_label}
 use Rattle.mm_tree.specs.Inside.Ways.{leads_to, found_down, edit_down}
 use Rattle.mm_tree.specs.Untouched.{OneRun, LoadLeaves, InsertLeaves, DeleteLeaves, ReplaceLeaves}
 use Rattle.mm_tree.proofs.WayLaws.{edit_is, found_is, is_found, labels_of}
@@ -91,7 +91,7 @@ one_run f taken given l x n forest w h =
     let k = labels_of forest w in
     subst (λ z. OneRun (preorder forest) (preorder z) (taken n) given) (edit_is f x [] None forest k) (one_run_down f taken given l x forest n (found_is x [] None forest k ∙ h))
 
-there : (x : List ℤ) (forest : Trees Labelled) (r : Option (Tree Labelled)) → found x forest ≡ r → has x forest ≡ true → (n : Tree Labelled) × (found x forest ≡ Some n)
+there : (x : List ℤ) (forest : Trees Labelled) (r : Option (Tree Labelled)) → found x forest ≡ r → has_node x forest ≡ true → (n : Tree Labelled) × (found x forest ≡ Some n)
 there x forest None e h = absurd (true≢false (is_found x forest h e))
 there x forest (Some n) e h = (n, e)
 

@@ -15,7 +15,7 @@ use Rattle.mm_tree.specs.Trees.{Trees, none, node, Tree}
 use Rattle.mm_tree.specs.Numbering.{Labelled}
 use Rattle.mm_tree.specs.Forests.{segment_below, is_before, are_labelled, is_well_formed}
 use Rattle.mm_tree.specs.declared.forest.place.Place.{Place}
-use Rattle.mm_tree.specs.Edits.{has_label, has, found, Change, edit, Gap, gap_at, gap}
+use Rattle.mm_tree.specs.Edits.{has_label, has_node, found, Change, edit, Gap, gap_at, gap}
 use Rattle.mm_tree.specs.Inside.Ways.{leads_to, found_down, edit_down, gap_down}
 use Rattle.mm_tree.proofs.LabelledLaws.{front_is}
 use Rattle.mm_tree.specs.Facts.Formed.{front_splits, parts}
@@ -41,13 +41,13 @@ any_of false true c h P p q r = q refl
 any_of false false c h P p q r = r h
 
 -- a label among siblings and those below them goes on from the parent's
-pub within : (y : List ℤ) (left : Option (List ℤ)) (ts : Trees Labelled) (x : List ℤ) → are_labelled y left ts ≡ true → has x ts ≡ true → Under y left x
+pub within : (y : List ℤ) (left : Option (List ℤ)) (ts : Trees Labelled) (x : List ℤ) → are_labelled y left ts ≡ true → has_node x ts ≡ true → Under y left x
 within y left none x l h = absurd cc
 within y left (node e inner rest) x l h =
     let s = segment_below y e.label in
     let p = parts y left e inner rest l in
     let e_is : e.label ≡ y ++ s = front_splits y e.label p.front in
-    any_of (has_label x e) (has x inner) (has x rest) h (Under y left x)
+    any_of (has_label x e) (has_node x inner) (has_node x rest) h (Under y left x)
     (λ k. record { segment = s; more = []; is = sym (label_is x e k) ∙ e_is ∙ ap (λ (z : List ℤ). y ++ z) (sym (append-nil s)); whole = p.whole; above = p.above })
     (λ k. let u = within e.label None inner x p.below k in
     record { segment = s; more = u.segment ++ u.more; is = u.is ∙ ap (λ (z : List ℤ). z ++ (u.segment ++ u.more)) e_is ∙ append_assoc y s (u.segment ++ u.more); whole = p.whole; above = p.above })
@@ -80,12 +80,12 @@ refuted true f = f refl
 refuted false f = refl
 
 -- nothing beside a node on the way has the label
-pub none_beside : (y : List ℤ) (left : Option (List ℤ)) (e : Labelled) (inner rest : Trees Labelled) (x : List ℤ) → are_labelled y left (node e inner rest) ≡ true → leads_to x e ≡ true → has x rest ≡ false
+pub none_beside : (y : List ℤ) (left : Option (List ℤ)) (e : Labelled) (inner rest : Trees Labelled) (x : List ℤ) → are_labelled y left (node e inner rest) ≡ true → leads_to x e ≡ true → has_node x rest ≡ false
 none_beside y left e inner rest x l f =
     let s = segment_below y e.label in
     let p = parts y left e inner rest l in
     let e_is : e.label ≡ y ++ s = front_splits y e.label p.front in
-    refuted (has x rest) (λ k.
+    refuted (has_node x rest) (λ k.
     let u = within y (Some s) rest x p.after k in
     let r : y ++ (s ++ segment_below e.label x) ≡ y ++ (u.segment ++ u.more) =
     sym (append_assoc y s _) ∙ ap (λ (z : List ℤ). z ++ segment_below e.label x) (sym e_is) ∙ sym (front_splits e.label x f) ∙ u.is in
@@ -93,15 +93,15 @@ none_beside y left e inner rest x l f =
     sym u.above ∙ ap (λ (z : List ℤ). is_before s z) (sym g) ∙ before_irreflexive s)
 
 -- nothing below a node off the way has the label
-pub none_below : (e : Labelled) (inner : Trees Labelled) (x : List ℤ) → are_labelled e.label None inner ≡ true → leads_to x e ≡ false → has x inner ≡ false
+pub none_below : (e : Labelled) (inner : Trees Labelled) (x : List ℤ) → are_labelled e.label None inner ≡ true → leads_to x e ≡ false → has_node x inner ≡ false
 none_below e inner x l f =
-    refuted (has x inner) (λ k. let u = within e.label None inner x l k in sym (front_is e.label x _ u.is) ∙ f)
+    refuted (has_node x inner) (λ k. let u = within e.label None inner x l k in sym (front_is e.label x _ u.is) ∙ f)
 
 -- ---- the node that is found
 
-pub not_found : (x : List ℤ) (ts : Trees Labelled) → has x ts ≡ false → found x ts ≡ None
+pub not_found : (x : List ℤ) (ts : Trees Labelled) → has_node x ts ≡ false → found x ts ≡ None
 not_found x none h = refl
-not_found x (node e inner rest) h = by_tests (has_label x e) (has x inner) (has x rest) h (not_found x rest)
+not_found x (node e inner rest) h = by_tests (has_label x e) (has_node x inner) (has_node x rest) h (not_found x rest)
   where
     by_tests : (a b c : Bool) → (a || (b || c)) ≡ false → (c ≡ false → found x rest ≡ None) → (if a then Some (e, inner) else (if b then found x inner else found x rest)) ≡ None
     by_tests true b c h p = absurd cc
@@ -109,9 +109,9 @@ not_found x (node e inner rest) h = by_tests (has_label x e) (has x inner) (has 
     by_tests false false c h p = p h
 
 -- what is found tells whether the label is there
-pub is_found : (x : List ℤ) (ts : Trees Labelled) → has x ts ≡ true → found x ts ≡ None → true ≡ false
+pub is_found : (x : List ℤ) (ts : Trees Labelled) → has_node x ts ≡ true → found x ts ≡ None → true ≡ false
 is_found x none h n = sym h
-is_found x (node e inner rest) h n = by_tests (has_label x e) (has x inner) (has x rest) h n (is_found x inner) (is_found x rest)
+is_found x (node e inner rest) h n = by_tests (has_label x e) (has_node x inner) (has_node x rest) h n (is_found x inner) (is_found x rest)
   where
     by_tests : (a b c : Bool) → (a || (b || c)) ≡ true → (if a then Some (e, inner) else (if b then found x inner else found x rest)) ≡ None
         → (b ≡ true → found x inner ≡ None → true ≡ false) → (c ≡ true → found x rest ≡ None → true ≡ false) → true ≡ false
@@ -119,15 +119,15 @@ is_found x (node e inner rest) h n = by_tests (has_label x e) (has x inner) (has
     by_tests false true c h n p q = p refl n
     by_tests false false c h n p q = q h n
 
-pub absent : (x : List ℤ) (ts : Trees Labelled) → found x ts ≡ None → not (has x ts) ≡ true
-absent x ts n = by_test (has x ts) (λ h. is_found x ts h n)
+pub absent : (x : List ℤ) (ts : Trees Labelled) → found x ts ≡ None → not (has_node x ts) ≡ true
+absent x ts n = by_test (has_node x ts) (λ h. is_found x ts h n)
   where
     by_test : (b : Bool) → (b ≡ true → true ≡ false) → not b ≡ true
     by_test true f = sym (f refl)
     by_test false f = refl
 
-pub present : (x : List ℤ) (ts : Trees Labelled) (t : Tree Labelled) → found x ts ≡ Some t → has x ts ≡ true
-present x ts t e = by_test (has x ts) (not_found x ts)
+pub present : (x : List ℤ) (ts : Trees Labelled) (t : Tree Labelled) → found x ts ≡ Some t → has_node x ts ≡ true
+present x ts t e = by_test (has_node x ts) (not_found x ts)
   where
     by_test : (b : Bool) → (b ≡ false → found x ts ≡ None) → b ≡ true
     by_test true f = refl
@@ -138,7 +138,7 @@ pub found_is : (x y : List ℤ) (left : Option (List ℤ)) (ts : Trees Labelled)
 found_is x y left none l = refl
 found_is x y left (node e inner rest) l =
     let p = parts y left e inner rest l in
-    by_tests (leads_to x e) (has_label x e) (has x inner) (found_is x e.label None inner p.below) (found_is x y (Some (segment_below y e.label)) rest p.after) (leads_home x e)
+    by_tests (leads_to x e) (has_label x e) (has_node x inner) (found_is x e.label None inner p.below) (found_is x y (Some (segment_below y e.label)) rest p.after) (leads_home x e)
     (λ k. not_found x rest (none_beside y left e inner rest x l k)) (λ k. none_below e inner x p.below k) (not_found x inner)
   where
     by_tests : (a b c : Bool) → found_down x inner ≡ found x inner → found_down x rest ≡ found x rest → (b ≡ true → a ≡ true) → (a ≡ true → found x rest ≡ None) → (a ≡ false → c ≡ false) → (c ≡ false → found x inner ≡ None)
@@ -151,7 +151,7 @@ found_is x y left (node e inner rest) l =
     by_tests false false false p q r s t u = q
 
 pub found_tells : {A : Type 0} (r : Option A) (f : A → Tree Labelled) (x : List ℤ) (ts : Trees Labelled) → MatchOption r (found x ts ≡ None) (λ n. found x ts ≡ Some (f n))
-    → MatchOption r (IsTrue (not (has x ts))) (λ n. IsTrue (has x ts))
+    → MatchOption r (IsTrue (not (has_node x ts))) (λ n. IsTrue (has_node x ts))
 found_tells None f x ts h = absent x ts h
 found_tells (Some n) f x ts h = present x ts (f n) h
 
@@ -169,10 +169,10 @@ leads_is b label x h = by_tests b (starts_with int_eq x label) (λ k. let r = (s
 
 -- ---- the edit and the gap
 
-unchanged : (f : Change) (x : List ℤ) (ts : Trees Labelled) → has x ts ≡ false → edit f x ts ≡ ts
+unchanged : (f : Change) (x : List ℤ) (ts : Trees Labelled) → has_node x ts ≡ false → edit f x ts ≡ ts
 unchanged f x none h = refl
 unchanged f x (node e inner rest) h =
-    by_tests (has_label x e) (has x inner) (has x rest) (f e inner rest) (edit f x inner) (edit f x rest) h (unchanged f x inner) (unchanged f x rest)
+    by_tests (has_label x e) (has_node x inner) (has_node x rest) (f e inner rest) (edit f x inner) (edit f x rest) h (unchanged f x inner) (unchanged f x rest)
   where
     by_tests : (a b c : Bool) (F i r : Trees Labelled) → (a || (b || c)) ≡ false → (b ≡ false → i ≡ inner) → (c ≡ false → r ≡ rest) → (if a then F else node e i r) ≡ node e inner rest
     by_tests true b c F i r h p q = absurd cc
@@ -195,11 +195,11 @@ edit_is f x y left (node e inner rest) l =
     by_tests false false F gi ei gr er f p q r s = λ j. node e (sym (s refl) j) (q j)
 
 -- the way down by labels finds the same gap
-pub gap_is : (place : Place) (x y : List ℤ) (left l : Option (List ℤ)) (ts : Trees Labelled) → are_labelled y left ts ≡ true → gap_down place x y l ts ≡ (if has x ts then Some (gap place x y l ts) else None)
+pub gap_is : (place : Place) (x y : List ℤ) (left l : Option (List ℤ)) (ts : Trees Labelled) → are_labelled y left ts ≡ true → gap_down place x y l ts ≡ (if has_node x ts then Some (gap place x y l ts) else None)
 gap_is place x y left l none k = refl
 gap_is place x y left l (node e inner rest) k =
     let p = parts y left e inner rest k in
-    by_tests (leads_to x e) (has_label x e) (has x inner) (has x rest) (gap_at place y l e inner rest) _ _ _ _ (gap_is place x e.label None None inner p.below) (gap_is place x y (Some (segment_below y e.label)) (Some e.label) rest p.after)
+    by_tests (leads_to x e) (has_label x e) (has_node x inner) (has_node x rest) (gap_at place y l e inner rest) _ _ _ _ (gap_is place x e.label None None inner p.below) (gap_is place x y (Some (segment_below y e.label)) (Some e.label) rest p.after)
     (leads_home x e) (λ h. none_beside y left e inner rest x k h) (λ h. none_below e inner x p.below h)
   where
     by_tests : (a b c d : Bool) (G i r : Gap) (di dr : Option Gap) → di ≡ (if c then Some i else None) → dr ≡ (if d then Some r else None) → (b ≡ true → a ≡ true) → (a ≡ true → d ≡ false) → (a ≡ false → c ≡ false)

@@ -20,14 +20,14 @@ abbrev pub has_label : List ℤ → Labelled → Bool
 has_label x e = pointwise int_eq e.label x
 
 -- some node has the label
-abbrev pub has : List ℤ → Trees Labelled → Bool
-has x none = false
-has x (node e inner rest) = has_label x e || (has x inner || has x rest)
+abbrev pub has_node : List ℤ → Trees Labelled → Bool
+has_node x none = false
+has_node x (node e inner rest) = has_label x e || (has_node x inner || has_node x rest)
 
 -- the first node that has the label, with its children
 abbrev pub found : List ℤ → Trees Labelled → Option (Tree Labelled)
 found x none = None
-found x (node e inner rest) = if has_label x e then Some (e, inner) else (if has x inner then found x inner else found x rest)
+found x (node e inner rest) = if has_label x e then Some (e, inner) else (if has_node x inner then found x inner else found x rest)
 
 abbrev pub size_of : Option (Tree Labelled) → ℕ
 size_of None = 0
@@ -37,9 +37,9 @@ size_of (Some t) = nodes (one t)
 abbrev pub subtree_size : List ℤ → Trees Labelled → ℕ
 subtree_size x forest = size_of (found x forest)
 
-abbrev pub is_text : Option (Tree Labelled) → Bool
-is_text None = false
-is_text (Some t) = not (is_element t.0.kind)
+abbrev pub is_text_node : Option (Tree Labelled) → Bool
+is_text_node None = false
+is_text_node (Some t) = not (is_element t.0.kind)
 
 -- ---- changes at a node
 
@@ -92,7 +92,7 @@ gap_at Last y left e inner rest = record { parent = e.label; left = last_label N
 abbrev pub gap : Place → List ℤ → List ℤ → Option (List ℤ) → Trees Labelled → Gap
 gap place x y left none = record { parent = y; left = left; right = None }
 gap place x y left (node e inner rest) =
-    if has_label x e then gap_at place y left e inner rest else (if has x inner then gap place x e.label None inner else gap place x y (Some e.label) rest)
+    if has_label x e then gap_at place y left e inner rest else (if has_node x inner then gap place x e.label None inner else gap place x y (Some e.label) rest)
 
 -- the neighbours' segments
 abbrev pub left_segment : Gap → Option (List ℤ)
@@ -142,12 +142,12 @@ placed_refusal above x t =
 -- no node has the label; a text would get a child; or the new tree can't stand there
 abbrev pub insert_refusal : Place → List ℤ → Tree Kind → Trees Labelled → Option Refusal
 insert_refusal place x t forest =
-    if not (has x forest) then Some Absent
-    else (if is_inside place && is_text (found x forest) then Some Leaf
+    if not (has_node x forest) then Some Absent
+    else (if is_inside place && is_text_node (found x forest) then Some Leaf
     else placed_refusal (level (gap place x [] None forest).parent) (inserted_label place x forest) t)
 
 abbrev pub delete_refusal : List ℤ → Trees Labelled → Option Refusal
-delete_refusal x forest = if not (has x forest) then Some Absent else None
+delete_refusal x forest = if not (has_node x forest) then Some Absent else None
 
 abbrev pub replace_refusal : List ℤ → Tree Kind → Trees Labelled → Option Refusal
-replace_refusal x t forest = if not (has x forest) then Some Absent else placed_refusal (level x - 1) x t
+replace_refusal x t forest = if not (has_node x forest) then Some Absent else placed_refusal (level x - 1) x t

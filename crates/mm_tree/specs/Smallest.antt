@@ -26,7 +26,7 @@ pub record HasAnswer (query : List (List ℕ)) (trees : Trees Worded) (x : List 
 
 -- the answers are labels of nodes
 abbrev pub AnswersAreNodes : Type 0
-AnswersAreNodes = (query : List (List ℕ)) (forest : Trees Labelled) → (x : List ℤ) → Contains (slca query (worded forest)) x → IsTrue (edits.has x forest)
+AnswersAreNodes = (query : List (List ℕ)) (forest : Trees Labelled) → (x : List ℤ) → Contains (slca query (worded forest)) x → IsTrue (edits.has_node x forest)
 
 -- the answers are the smallest full nodes
 abbrev pub AnswersAreSmallest : Type 0

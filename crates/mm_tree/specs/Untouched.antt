@@ -5,7 +5,7 @@ use Rattle.mm_tree.specs.declared.forest.place.Place.{Place}
 use Rattle.mm_tree.specs.Trees.{Trees, Tree, one, preorder}
 use Rattle.mm_tree.specs.Numbering.{Labelled, number}
 use Rattle.mm_tree.specs.Forests.{is_well_formed, load, numbered_behind}
-use Rattle.mm_tree.specs.Edits.{has, found, insert, delete, replace, inserted_label}
+use Rattle.mm_tree.specs.Edits.{has_node, found, insert, delete, replace, inserted_label}
 
 -- `old` and `new` are the same nodes but for one run, which was `taken` and is `given`
 pub record OneRun (old new taken given : List Labelled) : Type 0 where
@@ -21,7 +21,7 @@ LoadLeaves = (t : Tree Kind) (forest : Trees Labelled) → preorder (load t fore
 -- an insertion: all nodes stay, and those of the new tree stand in one run
 abbrev pub InsertLeaves : Type 0
 InsertLeaves =
-    (place : Place) (x : List ℤ) (t : Tree Kind) (forest : Trees Labelled) → IsTrue (is_well_formed forest) → IsTrue (has x forest)
+    (place : Place) (x : List ℤ) (t : Tree Kind) (forest : Trees Labelled) → IsTrue (is_well_formed forest) → IsTrue (has_node x forest)
     → OneRun (preorder forest) (preorder (insert place x t forest)) [] (preorder (one (number (inserted_label place x forest) t)))
 
 -- a deletion: the nodes of the target's subtree go, and all others stay

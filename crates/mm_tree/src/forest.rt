@@ -3,7 +3,7 @@ ghost use Rattle.std.specs.Prelude.{◌≡◌, ◌^◌, ◌-◌, ◌≤◌, [], 
 ghost use Rattle.std.specs.Option.{SomeIff};
 ghost use Rattle.mm_tree.specs.Trees.{levels, nodes, one, tree_of};
 ghost use Rattle.mm_tree.specs.Numbering.{forest_of, node_of, Labels};
-ghost use Rattle.mm_tree.specs.Edits.{found, has, insert, delete, replace, inserted_label, subtree_size, insert_refusal, delete_refusal, replace_refusal};
+ghost use Rattle.mm_tree.specs.Edits.{found, has_node, insert, delete, replace, inserted_label, subtree_size, insert_refusal, delete_refusal, replace_refusal};
 ghost use Rattle.mm_tree.specs.Validity.{is_element, is_valid_tree};
 ghost use Rattle.mm_tree.specs.Forests.{is_well_formed, last_segment, next_label, load, load_refusal, IsRefusal};
 ghost use Rattle.mm_label.specs.Label.{IsSegment};
@@ -31,7 +31,7 @@ pub use place::Place;
 use std::alloc::Global;
 use std::marker::Model;
 
-/// What an edit did: the label of the subtree's root, and how many nodes the subtree has.
+/// What an edit did: the label of the subtree's root, and how many nodes the subtree has_node.
 #[derive(Drop)]
 pub struct Done {
     pub label: Label,
@@ -136,10 +136,10 @@ impl Forest {
         self.trees.as_slice()
     }
 
-    /// The node with the label, or None where no node has it.
+    /// The node with the label, or None where no node has_node it.
     pub fn find(&self, label: &Label) -> Option<&Node>
         ensures node { MatchOption result (found label.now (forest_of self.now) ≡ None) (λ n. found label.now (forest_of self.now) ≡ Some (node_of n.now)) }
-        ensures present { MatchOption result (IsTrue (not (has label.now (forest_of self.now)))) (λ n. IsTrue (has label.now (forest_of self.now))) }
+        ensures present { MatchOption result (IsTrue (not (has_node label.now (forest_of self.now)))) (λ n. IsTrue (has_node label.now (forest_of self.now))) }
     {
         find_in(self.trees.as_slice(), label)
     }

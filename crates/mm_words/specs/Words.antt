@@ -25,7 +25,7 @@ word_in bytes = if is_word bytes then Some bytes else None
 
 -- the words among these pieces, folded, in order
 abbrev pub words_in : List (List ℕ) → List (List ℕ)
-words_in pieces = filter is_word (map folded pieces)
+words_in name_pieces = filter is_word (map folded name_pieces)
 
 -- the words of a text, in order
 abbrev pub text_words : List ℕ → List (List ℕ)
@@ -41,13 +41,13 @@ onto_first b [] = (b ∷ []) ∷ []
 onto_first b (p ∷ ps) = (b ∷ p) ∷ ps
 
 -- the pieces of a name between its cuts
-abbrev pub pieces : List ℕ → List (List ℕ)
-pieces [] = [] ∷ []
-pieces (b ∷ bs) = if is_cut b then [] ∷ pieces bs else onto_first b (pieces bs)
+abbrev pub name_pieces : List ℕ → List (List ℕ)
+name_pieces [] = [] ∷ []
+name_pieces (b ∷ bs) = if is_cut b then [] ∷ name_pieces bs else onto_first b (name_pieces bs)
 
 -- the words of a name, which are those of its pieces
 abbrev pub name_words : List ℕ → List (List ℕ)
-name_words name = flat_map text_words (pieces name)
+name_words name = flat_map text_words (name_pieces name)
 
 -- the sorted list of these, each once
 pub record IsSetOf (these : List (List ℕ)) (list : List (List ℕ)) : Type 0 where
@@ -67,7 +67,7 @@ first_occurrences (w ∷ ws) = w ∷ without w (first_occurrences ws)
 
 -- these pieces folded, without those that hold a byte 00; they may be too long for words
 abbrev pub kept_in : List (List ℕ) → List (List ℕ)
-kept_in pieces = filter has_no_zero (map folded pieces)
+kept_in name_pieces = filter has_no_zero (map folded name_pieces)
 
 abbrev pub kept_words : List ℕ → List (List ℕ)
 kept_words text = kept_in (words text)
@@ -99,10 +99,10 @@ no_bytes = refl
 zero_byte : is_word (119 ∷ 0 ∷ []) ≡ false
 zero_byte = refl
 
-xml_lang : pieces (codes "xml:lang") ≡ codes "xml" ∷ codes "lang" ∷ []
+xml_lang : name_pieces (codes "xml:lang") ≡ codes "xml" ∷ codes "lang" ∷ []
 xml_lang = refl
 
-empty_piece : pieces (codes "a-b._c") ≡ codes "a" ∷ codes "b" ∷ [] ∷ codes "c" ∷ []
+empty_piece : name_pieces (codes "a-b._c") ≡ codes "a" ∷ codes "b" ∷ [] ∷ codes "c" ∷ []
 empty_piece = refl
 
 once_each : first_occurrences (codes "b" ∷ codes "a" ∷ codes "b" ∷ codes "a" ∷ []) ≡ codes "b" ∷ codes "a" ∷ []

@@ -2,7 +2,7 @@ use Rattle.std.proofs.Common.{ap, sym, subst, ◌∙◌, ◌+◌, ◌≤◌, ◌
 use Rattle.std.specs.Prelude.{None}
 use Rattle.mm_tree.specs.Trees.{tree_of, one, levels}
 use Rattle.mm_tree.specs.Numbering.{forest_of, node_of}
-use Rattle.mm_tree.specs.Edits.{found, gap, is_inside, is_text}
+use Rattle.mm_tree.specs.Edits.{found, gap, is_inside, is_text_node}
 use Rattle.mm_tree.specs.Inside.Ways.{gap_down, gap_of}
 use Rattle.mm_tree.proofs.MeasureFacts.{node_count_fits}
 use Rattle.mm_tree.proofs.EditFacts.{Inserting, the_insertion, insertion_formed}
@@ -19,7 +19,7 @@ steps c =
       valid = c.requires.valid;
       down = ap (λ ns. gap_down p x [] None (forest_of ns)) back ∙ c.in_ok-opening.ensures.down;
       here = ap (λ ns. gap p x [] None (forest_of ns)) back ∙ c.in_ok-opening.ensures.here;
-      childless = ap (λ ns. is_inside p && is_text (found x (forest_of ns))) back ∙ c.in_ok-opening.ensures.childless;
+      childless = ap (λ ns. is_inside p && is_text_node (found x (forest_of ns))) back ∙ c.in_ok-opening.ensures.childless;
       element = λ z. c.in_ok-nodes.ensures.element (c.level_of.ensures ∙ z);
       levels_fit = subst (λ n. n + levels (one (tree_of c.args.tree)) ≤ 200) c.level_of.ensures c.in_ok-nodes.ensures.shallow;
       label_is = c.in_ok-label.ensures.label.0;
