@@ -3,16 +3,16 @@ use Rattle.std.proofs.Common.{◌≡◌, ℕ, ◌<◌, Bool, true, false, cond, 
 use Rattle.std.specs.List.{position_or_len, before_first, after_first}
 use Rattle.std.proofs.lemmas.Bool.Decides.{nat_tests}
 use Rattle.mm_words.specs.Words.{text_words}
-use Rattle.mm_words.specs.Words.{is_cut, pieces, onto_first, name_words}
+use Rattle.mm_words.specs.Words.{is_cut, name_pieces, onto_first, name_words}
 
 abbrev place : List ℕ → ℕ
 place bs = position_or_len is_cut bs
 
-pub cut_none : (bs : List ℕ) → place bs ≡ length bs → pieces bs ≡ bs ∷ []
+pub cut_none : (bs : List ℕ) → place bs ≡ length bs → name_pieces bs ≡ bs ∷ []
 cut_none [] e = refl
 cut_none (b ∷ bs) e = by_test (is_cut b) (place (b ∷ bs)) refl e (cut_none bs)
   where
-    by_test : (t : Bool) (m : ℕ) → m ≡ cond (not t) (1 + place bs) 0 → m ≡ suc (length bs) → (place bs ≡ length bs → pieces bs ≡ bs ∷ []) → cond t ([] ∷ pieces bs) (onto_first b (pieces bs)) ≡ (b ∷ bs) ∷ []
+    by_test : (t : Bool) (m : ℕ) → m ≡ cond (not t) (1 + place bs) 0 → m ≡ suc (length bs) → (place bs ≡ length bs → name_pieces bs ≡ bs ∷ []) → cond t ([] ∷ name_pieces bs) (onto_first b (name_pieces bs)) ≡ (b ∷ bs) ∷ []
     by_test true m f e rest = absurd (omega (arith, e, f))
     by_test false m f e rest = ap (onto_first b) (rest (omega (arith, e, f)))
 
@@ -28,16 +28,16 @@ drop_none b bs m e = let f : m + 1 ≡ suc 0 = omega (arith, e) in ap (λ n. dro
 drop_more : (b : ℕ) (bs : List ℕ) (q m : ℕ) → m ≡ 1 + q → drop (m + 1) (b ∷ bs) ≡ drop (q + 1) bs
 drop_more b bs q m e = let f : m + 1 ≡ suc (q + 1) = omega (arith, e) in ap (λ n. drop n (b ∷ bs)) f
 
-pub cut_first : (bs : List ℕ) → place bs < length bs → pieces bs ≡ take (place bs) bs ∷ pieces (drop (place bs + 1) bs)
+pub cut_first : (bs : List ℕ) → place bs < length bs → name_pieces bs ≡ take (place bs) bs ∷ name_pieces (drop (place bs + 1) bs)
 cut_first [] h = absurd (omega (arith, h))
 cut_first (b ∷ bs) h = by_test (is_cut b) (place (b ∷ bs)) refl h (cut_first bs)
   where
-    by_test : (t : Bool) (m : ℕ) → m ≡ cond (not t) (1 + place bs) 0 → m < suc (length bs) → (place bs < length bs → pieces bs ≡ take (place bs) bs ∷ pieces (drop (place bs + 1) bs))
-        → cond t ([] ∷ pieces bs) (onto_first b (pieces bs)) ≡ take m (b ∷ bs) ∷ pieces (drop (m + 1) (b ∷ bs))
-    by_test true m e h rest = ap₂ (λ xs ys. xs ∷ pieces ys) (sym (take_none (b ∷ bs) m e)) (sym (drop_none b bs m e))
+    by_test : (t : Bool) (m : ℕ) → m ≡ cond (not t) (1 + place bs) 0 → m < suc (length bs) → (place bs < length bs → name_pieces bs ≡ take (place bs) bs ∷ name_pieces (drop (place bs + 1) bs))
+        → cond t ([] ∷ name_pieces bs) (onto_first b (name_pieces bs)) ≡ take m (b ∷ bs) ∷ name_pieces (drop (m + 1) (b ∷ bs))
+    by_test true m e h rest = ap₂ (λ xs ys. xs ∷ name_pieces ys) (sym (take_none (b ∷ bs) m e)) (sym (drop_none b bs m e))
     by_test false m e h rest =
         ap (onto_first b) (rest (omega (arith, e, h)))
-        ∙ ap₂ (λ xs ys. xs ∷ pieces ys) (sym (take_more b bs (place bs) m e)) (sym (drop_more b bs (place bs) m e))
+        ∙ ap₂ (λ xs ys. xs ∷ name_pieces ys) (sym (take_more b bs (place bs) m e)) (sym (drop_more b bs (place bs) m e))
 
 pub words_none : (bs : List ℕ) → place bs ≡ length bs → name_words bs ≡ text_words bs
 words_none bs e = ap (λ ps. flat_map text_words ps) (cut_none bs e) ∙ append-nil (text_words bs)
