@@ -3,8 +3,9 @@
 
 The claim is what a reader must believe: the files of each crate's specs/ outside Inside, Facts and Examples.
 None of them may import a file of Inside or of Facts. docs/READING.md lists files of the claim with names, and
-so does the table of terms in docs/MODEL.md; each name must be defined in its file. Prints what is wrong, and
-how many lines the definitions have that docs/READING.md lists.
+so does the table of terms in docs/MODEL.md; each name must be defined in its file, and what a listed definition
+rests on must be listed too. Prints what is wrong, and how many lines the definitions have that
+docs/READING.md lists.
 Run it at the top of the repository: python3 bench/claim.py
 """
 
@@ -88,9 +89,49 @@ def listed(document, pattern, order):
     return files, total, wrong
 
 
+IMPORT = re.compile(r"^use Rattle\.(\w+)\.specs\.([\w.]+?)\.\{([^}]*)\}", re.M)
+ALIAS = re.compile(r"^use Rattle\.(\w+)\.specs\.([\w.]+?) as (\w+)$", re.M)
+
+
+def rests_on(path, lines):
+    """The definitions of the claim, as (path, name), that these lines of a file name."""
+    text = path.read_text()
+    known, aliases = {}, {}
+    for crate, module, names in IMPORT.findall(text):
+        target = pathlib.Path("crates", crate, "specs", module.replace(".", "/") + ".antt")
+        for name in names.split(","):
+            known[name.strip()] = target
+    for crate, module, alias in ALIAS.findall(text):
+        aliases[alias] = pathlib.Path("crates", crate, "specs", module.replace(".", "/") + ".antt")
+    body = "\n".join(line for line in lines if not line.strip().startswith("--"))
+    for alias, name in re.findall(r"\b(\w+)\.([A-Za-z_][\w'-]*)", body):
+        if alias in aliases and aliases[alias].exists():
+            yield aliases[alias], name
+    for name in sorted(set(re.findall(r"(?<![\w.'-])[A-Za-z_][\w'-]*", body)) - {"record", "data"}):
+        target = known.get(name, path)
+        if target.exists() and antt_lines(target.read_text(), name) is not None:
+            yield target, name
+
+
+def unlisted():
+    """What a definition that docs/READING.md lists rests on, at whatever depth, and that it doesn't list."""
+    rows = named_in("docs/READING.md", ROW, (1, 2))
+    open_ones = [(path, name) for path, names in rows if path.exists() for name in names]
+    found = set(open_ones)
+    while open_ones:
+        path, name = open_ones.pop()
+        if path.suffix != ".antt":
+            continue
+        for needed in rests_on(path, antt_lines(path.read_text(), name) or []):
+            if needed not in found:
+                found.add(needed)
+                open_ones.append(needed)
+                yield f"docs/READING.md: {name} of {path} rests on {needed[1]} of {needed[0]}, which isn't listed"
+
+
 def main():
     files, total, missing = listed("docs/READING.md", ROW, (1, 2))
-    wrong = list(breaches()) + missing + listed("docs/MODEL.md", TERM, (2, 1))[2]
+    wrong = list(breaches()) + missing + list(unlisted()) + listed("docs/MODEL.md", TERM, (2, 1))[2]
     for line in wrong:
         print(line)
     print(f"{total} lines of definitions and contracts in {len(files)} files are listed in docs/READING.md")

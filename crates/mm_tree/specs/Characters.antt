@@ -3,12 +3,13 @@ use Rattle.std.specs.Prelude.{ℕ, List, [], ◌∷◌, Bool, true, false, ◌&&
 use Rattle.std.specs.List.{list_all}
 use Rattle.std.specs.Str.{encode_utf8_all}
 
-abbrev pub between : ℕ → ℕ → ℕ → Bool
-between low high c = nat_le low c && nat_le c high
+-- the number is from low to high
+abbrev pub is_from : ℕ → ℕ → ℕ → Bool
+is_from low high c = nat_le low c && nat_le c high
 
 -- Char, production 2
 abbrev pub is_char : ℕ → Bool
-is_char c = (c == 9) || (c == 10) || (c == 13) || between 32 55295 c || between 57344 65533 c || between 65536 1114111 c
+is_char c = (c == 9) || (c == 10) || (c == 13) || is_from 32 55295 c || is_from 57344 65533 c || is_from 65536 1114111 c
 
 -- one character of S, production 3
 abbrev pub is_space : ℕ → Bool
@@ -16,11 +17,11 @@ is_space c = (c == 32) || (c == 9) || (c == 13) || (c == 10)
 
 -- NameStartChar, production 4
 abbrev pub is_name_start : ℕ → Bool
-is_name_start c = (c == 58) || between 65 90 c || (c == 95) || between 97 122 c || between 192 214 c || between 216 246 c || between 248 767 c || between 880 893 c || between 895 8191 c || between 8204 8205 c || between 8304 8591 c || between 11264 12271 c || between 12289 55295 c || between 63744 64975 c || between 65008 65533 c || between 65536 983039 c
+is_name_start c = (c == 58) || is_from 65 90 c || (c == 95) || is_from 97 122 c || is_from 192 214 c || is_from 216 246 c || is_from 248 767 c || is_from 880 893 c || is_from 895 8191 c || is_from 8204 8205 c || is_from 8304 8591 c || is_from 11264 12271 c || is_from 12289 55295 c || is_from 63744 64975 c || is_from 65008 65533 c || is_from 65536 983039 c
 
 -- NameChar, production 4a
 abbrev pub is_name_char : ℕ → Bool
-is_name_char c = is_name_start c || (c == 45) || (c == 46) || between 48 57 c || (c == 183) || between 768 879 c || between 8255 8256 c
+is_name_char c = is_name_start c || (c == 45) || (c == 46) || is_from 48 57 c || (c == 183) || is_from 768 879 c || is_from 8255 8256 c
 
 -- Name, production 5
 abbrev pub is_name : List ℕ → Bool

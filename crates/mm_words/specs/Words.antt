@@ -25,7 +25,7 @@ word_in bytes = if is_word bytes then Some bytes else None
 
 -- the words among these pieces, folded, in order
 abbrev pub words_in : List (List ℕ) → List (List ℕ)
-words_in name_pieces = filter is_word (map folded name_pieces)
+words_in pieces = filter is_word (map folded pieces)
 
 -- the words of a text, in order
 abbrev pub text_words : List ℕ → List (List ℕ)
@@ -67,7 +67,7 @@ first_occurrences (w ∷ ws) = w ∷ without w (first_occurrences ws)
 
 -- these pieces folded, without those that hold a byte 00; they may be too long for words
 abbrev pub kept_in : List (List ℕ) → List (List ℕ)
-kept_in name_pieces = filter has_no_zero (map folded name_pieces)
+kept_in pieces = filter has_no_zero (map folded pieces)
 
 abbrev pub kept_words : List ℕ → List (List ℕ)
 kept_words text = kept_in (words text)

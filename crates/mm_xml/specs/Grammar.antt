@@ -14,13 +14,16 @@ pub data Bracket : Type 0 where
   Begin : Kind → Bracket
   End : List ℕ → Bracket
 
+-- the name in a node's end tag; a text has none
 abbrev pub end_name : Kind → List ℕ
 end_name (Element name attributes) = name
 end_name (Words text) = []
 
+-- a run of characters is a text, unless it is white space alone
 abbrev pub text_brackets : List ℕ → List Bracket
 text_brackets run = if list_all is_space run then [] else Begin (Words (encode_utf8_all run)) ∷ End [] ∷ []
 
+-- a start tag begins an element, and an empty tag ends it too
 abbrev pub start_brackets : Bool → List ℕ → List Written → List Bracket
 start_brackets empty name attributes = Begin (Element (encode_utf8_all name) (map attribute_of attributes)) ∷ (if empty then End (encode_utf8_all name) ∷ [] else [])
 
@@ -47,6 +50,7 @@ unbroken n (Start empty name attributes gap ∷ ts) = unbroken 0 ts
 unbroken n (Close name gap ∷ ts) = unbroken 0 ts
 unbroken n (Doctype gap name ext after ∷ ts) = unbroken 0 ts
 
+-- some element is open
 abbrev pub is_inside : ℕ → Bool
 is_inside zero = false
 is_inside (suc depth) = true
@@ -71,6 +75,7 @@ is_textual (Comment cs) = true
 is_textual (Instruction name cs) = true
 is_textual t = false
 
+-- what trees say: each node's beginning, its children, and its end
 abbrev pub bracketing : Trees Kind → List Bracket
 bracketing none = []
 bracketing (node kind inner rest) = Begin kind ∷ bracketing inner ++ End (end_name kind) ∷ bracketing rest
@@ -92,6 +97,7 @@ abbrev pub is_text : Option Declaration → List Token → Bool
 is_text None tokens = list_all is_textual tokens
 is_text (Some d) tokens = false
 
+-- the tokens are in one of the two forms
 abbrev pub has_form : Option Declaration → List Token → Bool
 has_form first tokens = is_document first tokens || is_text first tokens
 
@@ -122,5 +128,6 @@ pub record SpellsBy (bytes : List ℕ) (t : Tree Kind) (first : Option Declarati
   pub encoded : IsTrue (are_chars bytes)
   pub by : SpelledBy (characters bytes) t first tokens
 
+-- the bytes spell the tree
 abbrev pub Spells : List ℕ → Tree Kind → Type 0
 Spells bytes t = (first : Option Declaration) × (tokens : List Token) × SpellsBy bytes t first tokens

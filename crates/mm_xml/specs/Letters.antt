@@ -2,7 +2,7 @@
 use Rattle.std.specs.Prelude.{ℕ, ◌+◌, ◌*◌, ◌-◌, List, [], ◌∷◌, ◌++◌, Bool, true, false, ◌&&◌, not, ◌==◌, nat_lt, Option, Some, None, if◌then◌else◌}
 use Rattle.std.specs.List.{list_all}
 use Rattle.std.specs.Str.{bytes_eq}
-use Rattle.mm_tree.specs.Characters.{between, is_char, is_space}
+use Rattle.mm_tree.specs.Characters.{is_from, is_char, is_space}
 
 -- one or more
 abbrev pub is_gap : List ℕ → Bool
@@ -11,7 +11,7 @@ is_gap (c ∷ cs) = list_all is_space (c ∷ cs)
 
 -- the digit's number, and 16 where it's none
 abbrev pub digit : ℕ → ℕ
-digit c = if between 48 57 c then c - 48 else (if between 65 70 c then c - 55 else (if between 97 102 c then c - 87 else 16))
+digit c = if is_from 48 57 c then c - 48 else (if is_from 65 70 c then c - 55 else (if is_from 97 102 c then c - 87 else 16))
 
 abbrev pub digits_value : ℕ → ℕ → List ℕ → ℕ
 digits_value base n [] = n
@@ -56,4 +56,4 @@ is_free pat (c ∷ cs) = not (starts pat (c ∷ (cs ++ pat))) && is_free pat cs
 
 -- `A` to `Z` as `a` to `z`
 abbrev pub lower : ℕ → ℕ
-lower c = if between 65 90 c then c + 32 else c
+lower c = if is_from 65 90 c then c + 32 else c

@@ -4,7 +4,7 @@ use Rattle.std.specs.List.{flat_map, list_all}
 use Rattle.std.specs.Str.{bytes_eq, encode_utf8_all}
 use Rattle.mm_tree.specs.declared.Attribute.{Attribute}
 use Rattle.mm_tree.specs.Validity.{are_distinct}
-use Rattle.mm_tree.specs.Characters.{between, is_char, is_space, is_name, is_short_name}
+use Rattle.mm_tree.specs.Characters.{is_from, is_char, is_space, is_name, is_short_name}
 use Rattle.mm_xml.specs.Letters.{is_gap, referred, is_free, lower}
 
 -- a character of a text or of a value: itself, or by a reference
@@ -87,7 +87,7 @@ abbrev pub is_quoted : (ℕ → Bool) → Quoted → Bool
 is_quoted p q = is_quote q.quote && list_all (λ c. p c && not (c == q.quote)) q.text
 
 abbrev pub is_public : ℕ → Bool
-is_public c = (c == 32) || (c == 13) || (c == 10) || between 97 122 c || between 65 90 c || between 39 59 c || (c == 33) || (c == 61) || (c == 63) || (c == 64) || (c == 35) || (c == 36) || (c == 95) || (c == 37)
+is_public c = (c == 32) || (c == 13) || (c == 10) || is_from 97 122 c || is_from 65 90 c || is_from 39 59 c || (c == 33) || (c == 61) || (c == 63) || (c == 64) || (c == 35) || (c == 36) || (c == 95) || (c == 37)
 
 -- ExternalID (75), behind its white space
 pub data External : Type 0 where
@@ -123,7 +123,7 @@ is_setting test s = is_gap s.gap && (list_all is_space s.before && (list_all is_
 -- one or more
 abbrev pub are_digits : List ℕ → Bool
 are_digits [] = false
-are_digits (c ∷ cs) = list_all (between 48 57) (c ∷ cs)
+are_digits (c ∷ cs) = list_all (is_from 48 57) (c ∷ cs)
 
 -- VersionNum (26): `1.` and digits
 abbrev pub is_version : List ℕ → Bool

@@ -3,7 +3,7 @@
 ghost use Rattle.std.specs.Prelude.{◌≡◌, IsTrue};
 ghost use Rattle.std.specs.List.{list_all};
 ghost use Rattle.std.specs.Str.{chars};
-ghost use Rattle.mm_tree.specs.Characters.{between as between_is};
+ghost use Rattle.mm_tree.specs.Characters.{is_from as between_is};
 ghost use Rattle.mm_xml.specs.Letters.{is_ascii};
 ghost use Rattle.mm_xml.specs.Syntax.{are_digits as digits_are, is_version as version_is, is_encoding as encoding_is, is_standalone as standalone_is, encoding_word, standalone_word};
 ghost use Rattle.mm_xml.specs.Inside.Declaring.{quoted_text_at, setting_at, passed, after_version as version_after, after_encoding as encoding_after, after_standalone as standalone_after, after_declaration as declaration_after};

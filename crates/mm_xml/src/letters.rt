@@ -2,7 +2,7 @@
 
 ghost use Rattle.std.specs.Prelude.{◌≡◌};
 ghost use Rattle.std.specs.List.{list_all, prefix_len};
-ghost use Rattle.mm_tree.specs.Characters.{between as between_is, is_char as char_is, is_space as space_is, is_name_start as name_start_is, is_name_char as name_char_is};
+ghost use Rattle.mm_tree.specs.Characters.{is_from as between_is, is_char as char_is, is_space as space_is, is_name_start as name_start_is, is_name_char as name_char_is};
 ghost use Rattle.std.specs.Str.{chars};
 ghost use Rattle.mm_xml.specs.Inside.Lexing.{span};
 
