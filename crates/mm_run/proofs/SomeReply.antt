@@ -114,11 +114,11 @@ replied forest command = of-form command.form command.payload forest
 
 -- none is without either, so none is without a reply
 tree_settled : (bytes : List ℕ) → (IsTreeOrNone bytes → ⊥) → ⊥
-tree_settled bytes no = no (inr (λ t s. no (inl (t, s))))
+tree_settled bytes never = never (inr (λ t s. never (inl (t, s))))
 
 label_settled : (text : List ℕ) → (IsLabelOrNone text → ⊥) → ⊥
-label_settled text no = no (inr (λ x is e. no (inl (x, is, e))))
+label_settled text never = never (inr (λ x is e. never (inl (x, is, e))))
 
 pub never_without : (forest : Trees Labelled) (command : Command) → (HasReply forest command → ⊥) → ⊥
-never_without forest command no =
-    tree_settled (bytes_in command.payload) (λ tree. label_settled (label_asked command.form) (λ label. no (replied forest command tree label)))
+never_without forest command never =
+    tree_settled (bytes_in command.payload) (λ tree. label_settled (label_asked command.form) (λ label. never (replied forest command tree label)))
