@@ -1,0 +1,5 @@
+pub mod Keys
+pub mod Blocked
+pub mod Spots
+pub mod Changing
+pub mod Olds

@@ -1,0 +1,3 @@
+-- What the calls within this crate know.
+pub mod Finding
+pub mod Olds

@@ -1,0 +1,7 @@
+pub mod Entries
+pub mod Blocks
+pub mod Places
+pub mod Moments
+pub mod Keeping
+pub mod Lending
+pub mod Inside

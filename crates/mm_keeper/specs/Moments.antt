@@ -1,0 +1,9 @@
+-- A clock, and what a crash at each moment leaves. `I` is what a crash leaves: bytes, or a map.
+use Rattle.std.specs.Prelude.{ℕ, ◌≤◌, ◌⊎◌}
+
+-- A crash at any moment since old leaves what has P.
+pub record LeavesOnly {D I : Type 0} (moment : D → ℕ) (left_since : D → ℕ → I → Type 0) (old new : D) (P : I → Type 0) : Type 0 where
+  pub later : moment old ≤ moment new
+  pub each : (i : I) → left_since new (moment old) i → P i
+  -- for a run that began earlier
+  pub before : (t : ℕ) (i : I) → t ≤ moment old → left_since new t i → left_since old t i ⊎ P i
