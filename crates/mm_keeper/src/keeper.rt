@@ -185,6 +185,7 @@ pub trait Keeper {
         ensures journal { tells → (written self.new).journal < (written self.old).journal + 4200 * (8 * changes self.old + 2) }
         ensures changes { tells → changes self.new ≤ changes self.old }
         ensures none_left { tells → OnOk result (changes self.new ≡ 0) }
+        ensures memory { tells → IsErrOf result Fault.Memory → Rose (want_count self.old) (want_count self.new) ⊎ (written self.new ≡ written self.old) }
         ensures keeps { Keeps over has_maps is_sound is_spent fault_count want_count true self.old self.new (fault_of result) };
 
     /// Does the checkpoint work of at most so many pages. It takes no memory.

@@ -1,6 +1,6 @@
 // A sorted map in memory, in blocks of entries.
 ghost use Rattle.std.specs.Prelude.{◌≡◌, ◌≤◌, ◌<◌, ◌+◌, ◌-◌, ◌^◌, ◌⊎◌, ℕ, suc, [], ◌∷◌, length, take, drop, Some, option_map, slice_get, slice_index_or, true, remove, IfOk, OnOk, OnErr};
-ghost use Rattle.mm_keeper.specs.Entries.{HasRoom, Rises, IsBelow, rank, has, lookup, put, without, index_of, within, one_before, first_from, last_to, weight_of};
+ghost use Rattle.mm_keeper.specs.Entries.{HasRoom, IsSorted, Rises, IsBelow, rank, has, lookup, put, without, index_of, within, one_before, first_from, last_to, weight_of};
 ghost use Rattle.mm_keeper.specs.Blocks.{joined, AllSome, IsMap};
 ghost use Rattle.mm_keeper.specs.Places.{place_of};
 ghost use Rattle.mm_keeper.specs.Inside.Finding.{AllBelow, IsAt};
@@ -385,6 +385,7 @@ impl SortedMap {
         ensures ok { OnOk result (joined self.new ≡ put (joined self.old) key.now value.now) }
         ensures before { IfOk result (λ before. option_map (λ e. e.1) before ≡ lookup (joined self.old) key.now) }
         ensures err { OnErr result (joined self.new ≡ joined self.old) }
+        ensures sorted { IsSorted (joined self.new) }
     {
         match put_weighed(&mut self.blocks, &mut self.weight, key, value) {
             Ok(before) => Ok(before),
@@ -396,6 +397,7 @@ impl SortedMap {
     pub fn remove(&mut self, key: &[u8]) -> Option<Item>
         ensures without { joined self.new ≡ without (joined self.old) key.now }
         ensures before { result ≡ option_map (λ v. (key.now, v)) (lookup (joined self.old) key.now) }
+        ensures sorted { IsSorted (joined self.new) }
     {
         take_weighed(&mut self.blocks, &mut self.weight, key)
     }
