@@ -9,5 +9,5 @@ mod reply;
 mod tests;
 
 pub use line::{Find, Line, LineError};
-pub use reading::read_line;
+pub use reading::{read_line, without_return};
 pub use reply::{Reply, tree_reply, write_reply};

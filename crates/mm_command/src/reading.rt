@@ -13,7 +13,7 @@ use std::alloc::Global;
 const LINE_LIMIT: usize = 65_536;
 
 /// A line without one carriage return at its end.
-fn without_return(line: &[u8]) -> &[u8]
+pub fn without_return(line: &[u8]) -> &[u8]
     ensures { result.now ≡ strip_last 13 line.now }
 {
     match line {

@@ -1,16 +1,16 @@
 -- The candidates of the nodes of a list are gathered one by one.
-use Rattle.std.proofs.Common.{inl, inr, ◌≡◌, ◌∙◌, ℕ, ◌+◌, ◌≤◌, length, take, drop, take_all, arith, ap, List, [], ◌∷◌, ◌++◌, Option, Some, None, Result, Ok, Err, OnOk, refl, sym, subst}
-use Rattle.std.proofs.lemmas.List.{length-drop, drop_all, take_more}
-use Rattle.mm_label.specs.Fronts.{Label, Front, Within, Meets, Ascends}
+use Rattle.std.proofs.Common.{inl, inr, ◌≡◌, ◌∙◌, ℕ, ◌+◌, ◌≤◌, length, take, drop, take_all, arith, ap, List, [], ◌∷◌, ◌++◌, Option, Some, None, refl, sym, subst}
+use Rattle.std.proofs.lemmas.List.{length-drop, take_more}
+use Rattle.mm_label.specs.Fronts.{Label, Front, Meets, Ascends}
 use Rattle.mm_lists.specs.Full.{MeetsAll, IsFullNode, IsCandidate}
 use Rattle.mm_lists.specs.Inside.Narrowing.{or_empty}
-use Rattle.mm_lists.specs.Facts.Nearest.{NextMatch}
+use Rattle.mm_lists.specs.Advancing.{Advances}
 use Rattle.mm_label.specs.Facts.Fronts.{front_antisym}
-use Rattle.mm_label.specs.Facts.Lists.{met, meets, within_drop, within_last, within_longer, within_cases}
+use Rattle.mm_label.specs.Facts.Lists.{met, meets, within_last, within_longer, within_cases}
 use Rattle.mm_lists.specs.Lists.{head_of}
 use Rattle.mm_elca.specs.Owning.{Candidates}
 use Rattle.mm_elca.specs.Inside.Gathering.{Gathered, Gathering, IsInOrder, TakesIn}
-use Rattle.mm_lists.specs.Facts.Walking.{head_none, head_some, next_is, drop_rest}
+use Rattle.mm_lists.specs.Facts.Walking.{head_none, head_some, drop_rest}
 
 last_length : (c : Label) (ds : List Label) → length (ds ++ c ∷ []) ≡ length ds + 1
 last_length c [] = refl
@@ -53,37 +53,29 @@ gathering_first all ms cs at e h = record {
   here = h;
 }
 
-pub gathering_none : (all : List (List Label)) (ms : List Label) (i : ℕ) (cs : List Label) → Gathering all ms i cs None → Gathering all ms (i + 1) cs None
-gathering_none all ms i cs s =
+-- one node more is passed, or nothing is left
+pub gathering_more : (all : List (List Label)) (ms : List Label) (i : ℕ) (old new : List Label) (was at c : Option Label) → Gathering all ms i old was → Advances all ms i was at c → TakesIn c old new
+    → Gathering all ms (i + 1) new at
+gathering_more all ms i old new None at c s g u =
     let e = head_none (drop i ms) s.here in
     let n : length ms ≤ i = omega (arith, length-drop i ms, ap length e) in
     let t : take (i + 1) ms ≡ take i ms = take_all (i + 1) ms (omega arith) ∙ sym (take_all i ms n) in
-    let d : drop (i + 1) ms ≡ [] = drop_all (i + 1) ms (omega arith) in
+    let same : new ≡ old = subst (λ (o : Option Label). TakesIn o old new) g.found u in
     record {
-      gathered = subst (λ (p : List Label). Gathered all p cs) (sym t) s.gathered;
-      here = ap head_of (sym d);
+      gathered = subst (λ (p : List Label). Gathered all p new) (sym t) (subst (Gathered all (take i ms)) (sym same) s.gathered);
+      here = g.here;
     }
-
-pub gathering_at : (all : List (List Label)) (ms : List Label) (i : ℕ) (cs : List Label) (v : Label) → Gathering all ms i cs (Some v) → Within v ms
-gathering_at all ms i cs v s = let t = head_some (drop i ms) v s.here in within_drop i ms v (subst (Within v) (sym t.1) (inl refl))
-
-pub gathering_some : (all : List (List Label)) (ms : List Label) (i : ℕ) (old new : List Label) (v : Label) (c o : Option Label) → Ascends ms → Gathering all ms i old (Some v)
-    → IsCandidate all v (or_empty c) → TakesIn c old new → NextMatch ms v o → Gathering all ms (i + 1) new o
-gathering_some all ms i old new v c o a s k u n =
+gathering_more all ms i old new (Some v) at c s g u =
     let t = head_some (drop i ms) v s.here in
     let r = drop_rest ms i v t.0 t.1 in
     let more : take (i + 1) ms ≡ take i ms ++ v ∷ [] = take_more ms i [] r.0 ∙ ap (λ (x : Label). take i ms ++ x ∷ []) r.1 in
     record {
-      gathered = subst (λ (p : List Label). Gathered all p new) (sym more) (gathered_in all (take i ms) old new v c s.gathered k u);
-      here = next_is ms i v t.0 o a t.1 n ∙ ap head_of (sym r.2);
+      gathered = subst (λ (p : List Label). Gathered all p new) (sym more) (gathered_in all (take i ms) old new v c s.gathered g.found u);
+      here = g.here;
     }
 
 pub gathering_end : (all : List (List Label)) (ms : List Label) (i : ℕ) (cs : List Label) (at : Option Label) → i ≡ length ms → Gathering all ms i cs at → Gathered all ms cs
 gathering_end all ms i cs at e s = subst (λ (p : List Label). Gathered all p cs) (take_all i ms (omega arith)) s.gathered
-
-pub on_ok : {T E : Type 0} → (r : Result T E) → (P : Type 0) → P → OnOk r P
-on_ok (Ok o) P p = p
-on_ok (Err e) P p = tt
 
 -- ---- the candidates in document order, each once
 

@@ -1,12 +1,12 @@
 //! The candidates: for each node of the shortest keyword list the deepest node at or above it at which
 //! every list is met.
 
-ghost use Rattle.std.specs.Prelude.{◌≡◌, ◌↔◌, ◌+◌, ◌*◌, ◌≤◌, ◌<◌, ℕ, [], IfOk, IfErr, OnOk, IsTrue, length, get_or};
+ghost use Rattle.std.specs.Prelude.{◌≡◌, ◌+◌, ◌*◌, ◌≤◌, ◌<◌, ℕ, [], IfOk, OnOk, IsTrue, length, get_or};
 ghost use Rattle.mm_tree.specs.Trees.{Trees};
 ghost use Rattle.mm_tree.specs.Numbering.{Labelled};
 ghost use Rattle.mm_tree.specs.Forests.{is_well_formed};
 ghost use Rattle.mm_tree.specs.Search.{list_of, lists_of, worded};
-ghost use Rattle.mm_lists.specs.Causes.{Caused, IsSound};
+ghost use Rattle.mm_lists.specs.Leaves.{Leaves};
 ghost use Rattle.mm_lists.specs.Full.{MeetsAll};
 ghost use Rattle.mm_label.specs.Fronts.{Ascends};
 ghost use Rattle.mm_elca.specs.Inside.Gathering.{Gathered, Gathering, IsInOrder, TakesIn};
@@ -14,7 +14,7 @@ ghost use Rattle.mm_elca.specs.Inside.Gathering.{Gathered, Gathering, IsInOrder,
 use mm_host::Fault;
 use mm_label::Label;
 use mm_list::Items;
-use mm_lists::{Lists, candidate};
+use mm_lists::{Lists, next_candidate};
 use mm_steps::Steps;
 use mm_words::Word;
 use std::alloc::{AllocError, Global};
@@ -37,30 +37,22 @@ fn pass<X: Lists, L: Ledger>(
     alloc: Global,
     words: &[Word],
     own: usize,
-    at: Option<Label>,
+    at: &mut Option<Label>,
     found: &mut Items<Label>,
     lists: &mut X,
     steps: &mut Steps<L>,
-) -> Result<Option<Label>, Fault>
+) -> Result<(), Fault>
     requires { own < length words.now }
     ensures value { (f : Trees Labelled) (i : ℕ) → IsTrue (is_well_formed f) → X.stands lists.old f → MeetsAll [] (lists_of words.now (worded f))
-        → Gathering (lists_of words.now (worded f)) (list_of (get_or words.now own []) (worded f)) i found.old at
-        → IfOk result (λ next. Gathering (lists_of words.now (worded f)) (list_of (get_or words.now own []) (worded f)) (i + 1) found.new next) }
+        → Gathering (lists_of words.now (worded f)) (list_of (get_or words.now own []) (worded f)) i found.old at.old
+        → OnOk result (Gathering (lists_of words.now (worded f)) (list_of (get_or words.now own []) (worded f)) (i + 1) found.new at.new) }
     ensures count { OnOk result (length found.new ≤ length found.old + 1) }
-    ensures kept { (f : Trees Labelled) → X.stands lists.old f ↔ X.stands lists.new f }
-    ensures ground { X.same_ground lists.old lists.new }
-    ensures cause { Caused (X.fault_count lists.old) (X.fault_count lists.new) (X.spent lists.old) (X.spent lists.new) result }
-    ensures sound { (f : Trees Labelled) → X.stands lists.old f → IfErr result IsSound }
+    ensures leaves { Leaves X.stands X.same_ground X.fault_count X.spent lists.old lists.new result }
     ensures cost { steps.new + 1 ≤ steps.old + 2 * length words.now }
 {
-    match at {
-        None => Ok(None),
-        Some(v) => {
-            let next = candidate(alloc, words, own, &v, lists, steps)?;
-            take_in(found, next)?;
-            lists.next(&words[own], &v, steps)
-        }
-    }
+    let next = next_candidate(alloc, words, own, at, lists, steps)?;
+    take_in(found, next)?;
+    Ok(())
 }
 
 /// The labels in document order, each once.
@@ -89,17 +81,14 @@ pub fn gather<X: Lists, L: Ledger>(
         → IfOk result (λ r. Gathered (lists_of words.now (worded f)) (list_of (get_or words.now own []) (worded f)) r) }
     ensures order { IfOk result Ascends }
     ensures count { IfOk result (λ r. length r ≤ size) }
-    ensures kept { (f : Trees Labelled) → X.stands lists.old f ↔ X.stands lists.new f }
-    ensures ground { X.same_ground lists.old lists.new }
-    ensures cause { Caused (X.fault_count lists.old) (X.fault_count lists.new) (X.spent lists.old) (X.spent lists.new) result }
-    ensures sound { (f : Trees Labelled) → X.stands lists.old f → IfErr result IsSound }
+    ensures leaves { Leaves X.stands X.same_ground X.fault_count X.spent lists.old lists.new result }
     ensures cost { steps.new + size ≤ steps.old + 1 + 2 * length words.now * size }
 {
     let mut found = Items::new(alloc);
     let mut at = lists.first(&words[own], steps)?;
     // The count ends the loop also over lists that stand for no forest.
     for i in 0..size {
-        at = pass(alloc, words, own, at, &mut found, lists, steps)?;
+        pass(alloc, words, own, &mut at, &mut found, lists, steps)?;
     }
     let candidates = sorted(found)?;
     Ok(candidates)

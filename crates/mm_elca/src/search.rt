@@ -1,11 +1,11 @@
 // The search: candidates are judged from the last to the first.
-ghost use Rattle.std.specs.Prelude.{cond, ◌≡◌, ◌↔◌, ◌+◌, ◌*◌, ◌≤◌, ◌<◌, List, [], ◌∷◌, ◌++◌, IfOk, IfErr, OnOk, IsTrue, length, get_or};
+ghost use Rattle.std.specs.Prelude.{cond, ◌≡◌, ◌+◌, ◌*◌, ◌≤◌, ◌<◌, List, [], ◌∷◌, ◌++◌, IfOk, OnOk, IsTrue, length, get_or};
 ghost use Rattle.mm_tree.specs.Trees.{Trees};
 ghost use Rattle.mm_tree.specs.Numbering.{Labelled};
 ghost use Rattle.mm_tree.specs.Forests.{is_well_formed};
 ghost use Rattle.mm_tree.specs.Search.{list_of, lists_of, worded};
 ghost use Rattle.mm_tree.specs.Elca.{elca};
-ghost use Rattle.mm_lists.specs.Causes.{Caused, IsSound};
+ghost use Rattle.mm_lists.specs.Leaves.{Leaves};
 ghost use Rattle.mm_label.specs.Fronts.{Label};
 ghost use Rattle.mm_lists.specs.Full.{MeetsAll};
 ghost use Rattle.mm_elca.specs.Bound.{cost_of};
@@ -54,10 +54,7 @@ fn judge<X: Lists, L: Ledger>(
     ensures stack { (f : Trees Labelled) (passed : List Label) → Ready (lists_of words.now (worded f)) x passed → Stacked passed held.old.stack → OnOk result (Stacked (x ∷ passed) held.new.stack) }
     ensures done { (f : Trees Labelled) (passed : List Label) → X.stands lists.old f → Ready (lists_of words.now (worded f)) x passed → Stacked passed held.old.stack
         → Judged (IsOwner (lists_of words.now (worded f))) passed held.old.done → OnOk result (Judged (IsOwner (lists_of words.now (worded f))) (x ∷ passed) held.new.done) }
-    ensures kept { (f : Trees Labelled) → X.stands lists.old f ↔ X.stands lists.new f }
-    ensures ground { X.same_ground lists.old lists.new }
-    ensures cause { Caused (X.fault_count lists.old) (X.fault_count lists.new) (X.spent lists.old) (X.spent lists.new) result }
-    ensures sound { (f : Trees Labelled) → X.stands lists.old f → IfErr result IsSound }
+    ensures leaves { Leaves X.stands X.same_ground X.fault_count X.spent lists.old lists.new result }
     ensures cost { OnOk result (steps.new + length words.now * length held.new.stack ≤ steps.old + length words.now * length held.old.stack + 2 * length words.now) }
     ensures most { steps.new ≤ steps.old + length words.now * (1 + length held.old.stack) }
 {
@@ -78,10 +75,7 @@ fn judge_all<X: Lists, L: Ledger>(
     steps: &mut Steps<L>,
 ) -> Result<Items<Label>, Fault>
     ensures value { (f : Trees Labelled) → X.stands lists.old f → Candidates (lists_of words.now (worded f)) candidates → IfOk result (λ r. Judged (IsOwner (lists_of words.now (worded f))) candidates r) }
-    ensures kept { (f : Trees Labelled) → X.stands lists.old f ↔ X.stands lists.new f }
-    ensures ground { X.same_ground lists.old lists.new }
-    ensures cause { Caused (X.fault_count lists.old) (X.fault_count lists.new) (X.spent lists.old) (X.spent lists.new) result }
-    ensures sound { (f : Trees Labelled) → X.stands lists.old f → IfErr result IsSound }
+    ensures leaves { Leaves X.stands X.same_ground X.fault_count X.spent lists.old lists.new result }
     ensures cost { steps.new ≤ steps.old + 2 * length words.now * length candidates }
 {
     let mut held = Held {
@@ -107,10 +101,7 @@ fn answer_list<X: Lists, L: Ledger>(
     requires { own < length words.now }
     ensures value { (f : Trees Labelled) → IsTrue (is_well_formed f) → X.stands lists.old f → MeetsAll [] (lists_of words.now (worded f)) → length (list_of (get_or words.now own []) (worded f)) ≡ size
         → IfOk result (λ r. r ≡ elca words.now (worded f)) }
-    ensures kept { (f : Trees Labelled) → X.stands lists.old f ↔ X.stands lists.new f }
-    ensures ground { X.same_ground lists.old lists.new }
-    ensures cause { Caused (X.fault_count lists.old) (X.fault_count lists.new) (X.spent lists.old) (X.spent lists.new) result }
-    ensures sound { (f : Trees Labelled) → X.stands lists.old f → IfErr result IsSound }
+    ensures leaves { Leaves X.stands X.same_ground X.fault_count X.spent lists.old lists.new result }
     ensures cost { steps.new + size ≤ steps.old + 1 + 4 * length words.now * size }
 {
     let candidates = gather(alloc, words, own, size, lists, steps)?;
@@ -135,10 +126,7 @@ pub fn answers<X: Lists, L: Ledger>(
     steps: &mut Steps<L>,
 ) -> Result<Items<Label>, Fault>
     ensures value { (f : Trees Labelled) → IsTrue (is_well_formed f) → X.stands lists.old f → IfOk result (λ r. r ≡ elca query.now (worded f)) }
-    ensures kept { (f : Trees Labelled) → X.stands lists.old f ↔ X.stands lists.new f }
-    ensures ground { X.same_ground lists.old lists.new }
-    ensures cause { Caused (X.fault_count lists.old) (X.fault_count lists.new) (X.spent lists.old) (X.spent lists.new) result }
-    ensures sound { (f : Trees Labelled) → X.stands lists.old f → IfErr result IsSound }
+    ensures leaves { Leaves X.stands X.same_ground X.fault_count X.spent lists.old lists.new result }
     ensures cost { (f : Trees Labelled) → X.stands lists.old f → steps.new ≤ steps.old + cost_of (lists_of query.now (worded f)) }
 {
     let words = query.words();

@@ -1,10 +1,10 @@
 //! The test of one candidate: whether each word occurs at or below it outside its full children.
 
-ghost use Rattle.std.specs.Prelude.{◌&&◌, ◌≡◌, ◌↔◌, ◌+◌, ◌*◌, ◌≤◌, List, ◌∷◌, ◌++◌, [], IfOk, IfErr, length};
+ghost use Rattle.std.specs.Prelude.{◌&&◌, ◌≡◌, ◌+◌, ◌*◌, ◌≤◌, List, ◌∷◌, ◌++◌, [], IfOk, length};
 ghost use Rattle.mm_tree.specs.Trees.{Trees};
 ghost use Rattle.mm_tree.specs.Numbering.{Labelled};
 ghost use Rattle.mm_tree.specs.Search.{list_of, lists_of, worded};
-ghost use Rattle.mm_lists.specs.Causes.{Caused, IsSound};
+ghost use Rattle.mm_lists.specs.Leaves.{Leaves};
 ghost use Rattle.mm_label.specs.Fronts.{Label};
 ghost use Rattle.mm_elca.specs.Inside.Children.{AreChildren, IsNextChild};
 ghost use Rattle.mm_elca.specs.Inside.Clear.{IsFirstClear, HasClear, HaveClear, is_under};
@@ -26,10 +26,7 @@ fn skip<X: Lists, L: Ledger>(
 ) -> Result<Option<Label>, Fault>
     ensures value { (f : Trees Labelled) (x : Label) (ks : List Label) → X.stands lists.old f → IsNextChild x kid.now ks → IsFirstClear (list_of word.now (worded f)) x ks found
         → IfOk result (λ o. IsFirstClear (list_of word.now (worded f)) x (ks ++ kid.now ∷ []) o) }
-    ensures kept { (f : Trees Labelled) → X.stands lists.old f ↔ X.stands lists.new f }
-    ensures ground { X.same_ground lists.old lists.new }
-    ensures cause { Caused (X.fault_count lists.old) (X.fault_count lists.new) (X.spent lists.old) (X.spent lists.new) result }
-    ensures sound { (f : Trees Labelled) → X.stands lists.old f → IfErr result IsSound }
+    ensures leaves { Leaves X.stands X.same_ground X.fault_count X.spent lists.old lists.new result }
     ensures cost { steps.new ≤ steps.old + 1 }
 {
     let Some(p) = found else {
@@ -59,10 +56,7 @@ fn own_match<X: Lists, L: Ledger>(
     steps: &mut Steps<L>,
 ) -> Result<bool, Fault>
     ensures value { (f : Trees Labelled) → X.stands lists.old f → AreChildren x.now kids.now → IfOk result (λ b. HasClear (list_of word.now (worded f)) x.now kids.now b) }
-    ensures kept { (f : Trees Labelled) → X.stands lists.old f ↔ X.stands lists.new f }
-    ensures ground { X.same_ground lists.old lists.new }
-    ensures cause { Caused (X.fault_count lists.old) (X.fault_count lists.new) (X.spent lists.old) (X.spent lists.new) result }
-    ensures sound { (f : Trees Labelled) → X.stands lists.old f → IfErr result IsSound }
+    ensures leaves { Leaves X.stands X.same_ground X.fault_count X.spent lists.old lists.new result }
     ensures cost { steps.new ≤ steps.old + 1 + length kids.now }
 {
     let mut found = lists.right(word, x, steps)?;
@@ -88,10 +82,7 @@ pub fn owns_each<X: Lists, L: Ledger>(
     steps: &mut Steps<L>,
 ) -> Result<bool, Fault>
     ensures value { (f : Trees Labelled) → X.stands lists.old f → AreChildren x.now kids.now → IfOk result (λ b. HaveClear (lists_of words.now (worded f)) x.now kids.now b) }
-    ensures kept { (f : Trees Labelled) → X.stands lists.old f ↔ X.stands lists.new f }
-    ensures ground { X.same_ground lists.old lists.new }
-    ensures cause { Caused (X.fault_count lists.old) (X.fault_count lists.new) (X.spent lists.old) (X.spent lists.new) result }
-    ensures sound { (f : Trees Labelled) → X.stands lists.old f → IfErr result IsSound }
+    ensures leaves { Leaves X.stands X.same_ground X.fault_count X.spent lists.old lists.new result }
     ensures cost { steps.new ≤ steps.old + length words.now * (1 + length kids.now) }
 {
     let mut so_far = true;

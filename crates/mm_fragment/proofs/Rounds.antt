@@ -7,6 +7,7 @@ use Rattle.mm_label.specs.Fronts.{Label, Front, is_front}
 use Rattle.mm_lists.specs.Full.{Word}
 use Rattle.mm_lists.specs.Lists.{IsRight, IsNext, IsRightPast}
 use Rattle.mm_match.specs.declared.mark.Mark.{Mark}
+use Rattle.mm_match.specs.Marks.{at_or_below}
 use Rattle.mm_tree.specs.Trees.{Trees, Tree}
 use Rattle.mm_tree.specs.Numbering.{Labelled}
 use Rattle.mm_tree.specs.Forests.{is_well_formed}
@@ -15,7 +16,7 @@ use Rattle.mm_tree.specs.Search.{list_of, worded}
 use Rattle.mm_tree.specs.Fragments.{Named}
 use Rattle.mm_fragment.specs.Bound.{cost_of, full_count, holders}
 use Rattle.mm_fragment.specs.Inside.Children.{IsFullChild}
-use Rattle.mm_fragment.specs.Inside.Gathering.{IsAsked, Walked, WalkedBelow, Passes, full_list, open_list, open_holders, marked_with, within}
+use Rattle.mm_fragment.specs.Inside.Gathering.{IsAsked, Walked, WalkedBelow, Passes, full_list, open_list, open_holders, marked_with}
 use Rattle.mm_fragment.specs.Matching.{Tells, marks_of, open_nodes}
 use Rattle.mm_fragment.specs.Showing.{named_in}
 use Rattle.mm_label.specs.Facts.Fronts.{front_yes, front_no}
@@ -97,7 +98,7 @@ gathered_more f x t query w bit old middle new before between now at o g p s = r
   steps = omega (arith, s, g.steps, p.one, length-append g.done p.more);
 }
 
-within_none : (x : Label) (at : Option Label) → within x at ≡ None → (a : Label) → at ≡ Some a → Front x a → ⊥
+within_none : (x : Label) (at : Option Label) → at_or_below x at ≡ None → (a : Label) → at ≡ Some a → Front x a → ⊥
 within_none x None e a h f = absurd cc
 within_none x (Some b) e a h f = by (is_front x b) refl e
   where
@@ -108,7 +109,7 @@ within_none x (Some b) e a h f = by (is_front x b) refl e
     by true q e = absurd cc
     by false q e = front_no x b q (subst (Front x) (sym same) f)
 
-pub within_some : (x : Label) (at : Option Label) (a : Label) → Some a ≡ within x at → (at ≡ Some a) × Front x a
+pub within_some : (x : Label) (at : Option Label) (a : Label) → Some a ≡ at_or_below x at → (at ≡ Some a) × Front x a
 within_some x None a e = absurd cc
 within_some x (Some b) a e = by (is_front x b) refl (sym e)
   where
@@ -124,7 +125,7 @@ holders_marked w bit query t = map_map (open_holders w query t)
     map_map (e ∷ es) = ap (λ (ms : List Mark). record { label = e.label; mask = bit } ∷ ms) (map_map es)
 
 pub gathered_ended : (f : Trees Labelled) (x : Label) (t : Tree Labelled) (answers : List Label) (query : List Word) (w : Word) (bit : ℕ) (old new : List Mark) (before now : ℕ) (at : Option Label)
-    → IsAsked f x t answers query → Gathered f x t query w bit old new before now at → None ≡ within x at → new ≡ old ++ marks_of bit (open_holders w query (named_in t))
+    → IsAsked f x t answers query → Gathered f x t query w bit old new before now at → None ≡ at_or_below x at → new ≡ old ++ marks_of bit (open_holders w query (named_in t))
 gathered_ended f x t answers query w bit old new before now at asked g e =
     let done = walk_ended (list_of w (worded f)) x (open_list w query (named_in t)) (full_list query (named_in t).1) answers g.done g.passed at (opens_of f x t answers query w asked) g.walked (within_none x at (sym e)) in
     g.marks ∙ ap (λ (ys : List Label). old ++ marked_with bit ys) done ∙ ap (λ (ms : List Mark). old ++ ms) (holders_marked w bit query (named_in t))

@@ -1,11 +1,7 @@
 -- What is shown of a node.
-use Rattle.std.proofs.Common.{◌≡◌, ℕ, List, [], ◌∷◌, Bool, true, cond, refl, ap, ap₂, sym, ◌∙◌, Some}
-use Rattle.std.specs.Prelude.{ℤ, bytes_eq, ◌↔◌}
-use Rattle.std.specs.List.{list_any, filter, Contains}
-use Rattle.std.specs.Cmp.{both_ways}
-use Rattle.std.proofs.lemmas.Cmp.{nat_list_eq_equiv}
-use Rattle.std.proofs.lemmas.Map.Views.{Contains-from_any, list_any-from_Contains}
-use Rattle.std.proofs.lemmas.Slice.Eq.{bytes_eq-Decides}
+use Rattle.std.proofs.Common.{◌≡◌, ℕ, List, ap, sym, ◌∙◌, Some}
+use Rattle.std.specs.Prelude.{ℤ, bytes_eq}
+use Rattle.std.specs.List.{list_any, filter}
 use Rattle.mm_tree.specs.declared.plain.Kind.{Kind}
 use Rattle.mm_tree.specs.declared.fragment.Fragment.{Fragment}
 use Rattle.mm_tree.specs.declared.fragment.Fragment.TheFolds.{fold-roll-Fragment}
@@ -38,22 +34,3 @@ name_some f label name n e a = a ∙ ap name_of (sym (kind_out n)) ∙ ap name_i
 pub words_some : (query : List (List ℕ)) (f : Trees Labelled) (label : List ℤ) (words : List (List ℕ)) (n : Node)
     → found label f ≡ Some (node_of n) → words ≡ filter (λ w. list_any (bytes_eq w) (own (out-Node n).kind)) query → words ≡ own_in query (found label f)
 words_some query f label words n e b = b ∙ ap (λ (k : Kind). filter (λ w. list_any (bytes_eq w) (own k)) query) (sym (kind_out n)) ∙ ap (own_in query) (sym e)
-
--- the same words: the same test
-pub same_any : (these list : List (List ℕ)) → ((w : List ℕ) → Contains list w ↔ Contains these w) → (w : List ℕ) → list_any (bytes_eq w) list ≡ list_any (bytes_eq w) these
-same_any these list f w = both_ways (list_any (bytes_eq w) list) (list_any (bytes_eq w) these)
-    (λ e. there these ((f w).0 (here list e)))
-    (λ e. there list ((f w).1 (here these e)))
-  where
-    here : (ks : List (List ℕ)) → list_any (bytes_eq w) ks ≡ true → Contains ks w
-    here ks e = Contains-from_any {eq = bytes_eq} (λ x y h. (bytes_eq-Decides x y).0 h) w ks e
-
-    there : (ks : List (List ℕ)) → Contains ks w → list_any (bytes_eq w) ks ≡ true
-    there ks c = list_any-from_Contains {eq = bytes_eq} nat_list_eq_equiv w ks c
-
--- those among the words of a node as a set are those among its words
-pub filter_any : (these list query : List (List ℕ)) → ((w : List ℕ) → Contains list w ↔ Contains these w)
-    → filter (λ w. list_any (bytes_eq w) list) query ≡ filter (λ w. list_any (bytes_eq w) these) query
-filter_any these list [] f = refl
-filter_any these list (w ∷ query) f =
-    ap₂ (λ (b : Bool) (rest : List (List ℕ)). cond b (w ∷ rest) rest) (same_any these list f w) (filter_any these list query f)

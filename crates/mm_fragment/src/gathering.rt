@@ -7,7 +7,7 @@ ghost use Rattle.mm_tree.specs.Numbering.{Labelled};
 ghost use Rattle.mm_lists.specs.Causes.{Caused, IsSound};
 ghost use Rattle.mm_label.specs.Fronts.{Front};
 ghost use Rattle.mm_fragment.specs.Bound.{cost_of, full_count, holders};
-ghost use Rattle.mm_fragment.specs.Inside.Gathering.{IsAsked, Passes, WalkedBelow, open_holders, within};
+ghost use Rattle.mm_fragment.specs.Inside.Gathering.{IsAsked, Passes, WalkedBelow, open_holders};
 ghost use Rattle.mm_fragment.specs.Matching.{marks_of, matches_of, open_nodes};
 ghost use Rattle.mm_fragment.specs.Showing.{named_in};
 
@@ -16,27 +16,11 @@ use mm_host::Fault;
 use mm_label::Label;
 use mm_list::Items;
 use mm_lists::Lists;
-use mm_match::Mark;
+use mm_match::{Mark, at_or_below};
 use mm_steps::Steps;
 use mm_words::Word;
 use std::alloc::Global;
 use std::sync::ledger::Ledger;
-
-/// The label where it lies at or below the root.
-fn within(root: &Label, at: Option<Label>) -> Option<Label>
-    ensures { result ≡ within root.now at }
-{
-    match at {
-        Some(label) => {
-            if root.is_prefix(&label) {
-                Some(label)
-            } else {
-                None
-            }
-        }
-        None => None,
-    }
-}
 
 /// Passes a node that holds the word: marks it, or leaves out the full child of the root in which it
 /// stands. Finds the next node of the list.
@@ -90,7 +74,7 @@ fn gather<X: Lists, L: Ledger>(
     // The range ends the loop also over lists that stand for no forest; memory holds no forest of so many
     // nodes.
     for _ in 0..u64::MAX {
-        let Some(label) = within(root.label, at) else {
+        let Some(label) = at_or_below(root.label, at) else {
             return Ok(());
         };
         let mark = Mark { label, mask: bit };

@@ -1,48 +1,18 @@
 //! What a fragment shows of a node.
 
-ghost use Rattle.std.specs.Prelude.{◌≡◌, IfOk, filter};
-ghost use Rattle.std.specs.List.{list_any};
-ghost use Rattle.std.specs.Str.{bytes_eq};
+ghost use Rattle.std.specs.Prelude.{◌≡◌, IfOk};
 ghost use Rattle.mm_tree.specs.Fragments.{fragment_tree, fragment_trees};
 ghost use Rattle.mm_tree.specs.Numbering.{forest_of};
-ghost use Rattle.mm_tree.specs.Search.{own};
 ghost use Rattle.mm_tree.specs.Edits.{found};
 ghost use Rattle.mm_tree.specs.Hits.{name_at};
 ghost use Rattle.mm_fragment.specs.Showing.{own_in, shown_at};
 
 use mm_label::Label;
 use mm_list::Items;
-use mm_tree::{Forest, Fragment, Kind, Text, own_words};
+use mm_tree::calls::own_in;
+use mm_tree::{Forest, Fragment, Text};
 use mm_words::Word;
 use std::alloc::{AllocError, Global};
-
-/// Whether the word is one of these.
-fn is_among(words: &[Word], word: &Word) -> bool
-    ensures { result ≡ list_any (bytes_eq word.now) words.now }
-{
-    words.contains(word)
-}
-
-/// Those of the query's words that are among the others, in the query's order.
-fn words_in(alloc: Global, own: &[Word], query: &[Word]) -> Result<Items<Word>, AllocError>
-    ensures { IfOk result (λ words. words ≡ filter (λ w. list_any (bytes_eq w) own.now) query.now) }
-{
-    let mut words = Items::new(alloc);
-    for word in query {
-        if is_among(own, word) {
-            words.push(word.copy(alloc)?)?;
-        }
-    }
-    Ok(words)
-}
-
-/// The words of the query that are the node's own, in the query's order.
-fn own_in(alloc: Global, kind: &Kind, query: &[Word]) -> Result<Items<Word>, AllocError>
-    ensures { IfOk result (λ words. words ≡ filter (λ w. list_any (bytes_eq w) (own kind.now)) query.now) }
-{
-    let own = own_words(alloc, kind)?;
-    words_in(alloc, own.as_slice(), query)
-}
 
 /// A node's name, and the words of a query that it holds itself.
 #[derive(Drop)]

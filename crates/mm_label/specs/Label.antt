@@ -39,11 +39,15 @@ abbrev pub last_odd : Bool → List ℤ → Bool
 last_odd b [] = b
 last_odd b (c ∷ cs) = last_odd (is_odd c) cs
 
--- one or more segments of components, of at most 512 bytes
+-- the most bytes that spell a label
+abbrev pub label_limit : ℕ
+label_limit = 512
+
+-- one or more segments of components, of no more bytes than the limit
 pub record IsLabel (cs : List ℤ) : Type 0 where
   pub in_range : IsTrue (all_in_range cs)
   pub ends_odd : IsTrue (last_odd false cs)
-  pub short : length (bytes_of cs) ≤ 512
+  pub short : length (bytes_of cs) ≤ label_limit
 
 -- how many segments there are, each with its one odd number
 abbrev pub level : List ℤ → ℕ

@@ -1,6 +1,7 @@
 -- When the calls refuse. Want of memory has no cause that a clause names.
 use Rattle.std.specs.Prelude.{ℕ, ℤ, ◌≡◌, ◌<◌, length, List, [], Option, Some, None}
 use Rattle.mm_label.specs.Bytes.{bytes_of}
+use Rattle.mm_label.specs.Label.{label_limit}
 use Rattle.mm_label.specs.Between.{first_out}
 use Rattle.mm_label.specs.Text.{IsNoLabelText}
 use Rattle.mm_label.specs.declared.error.LabelError.{LabelError}
@@ -13,11 +14,11 @@ RefusesSegment (OutOfRange value) segment = first_out segment ≡ Some value
 RefusesSegment (Full n) segment = ⊥
 RefusesSegment Memory segment = Unit {0}
 
--- the bytes would be so many, more than 512
+-- the bytes would be so many, more than the limit
 abbrev pub RefusesLabel : LabelError → List ℤ → Type 0
 RefusesLabel NotALabel label = ⊥
 RefusesLabel (OutOfRange value) label = ⊥
-RefusesLabel (Full n) label = (512 < n) × (n ≡ length (bytes_of label))
+RefusesLabel (Full n) label = (label_limit < n) × (n ≡ length (bytes_of label))
 RefusesLabel Memory label = Unit {0}
 
 -- no label has this text

@@ -6,7 +6,7 @@ ghost use Rattle.std.specs.Cmp.{int_cmp_total, int_eq_equiv, partial_equiv_from_
 ghost use Rattle.std.specs.Cmp.Lexicographic.{lists_total, lists_equiv, lists_ties, pointwise, slice_cmp};
 ghost use Rattle.std.proofs.Common.{rules};
 ghost use Rattle.mm_label.specs.Bytes.{bytes_of};
-ghost use Rattle.mm_label.specs.Label.{IsLabel, IsAncestorOrSelf, IsParent, IsSegment, IsLastSegment, SpellsNoLabel, level, lca, all_in_range};
+ghost use Rattle.mm_label.specs.Label.{IsLabel, IsAncestorOrSelf, IsParent, IsSegment, IsLastSegment, SpellsNoLabel, label_limit, level, lca, all_in_range};
 ghost use Rattle.mm_label.specs.Fronts.{is_front};
 ghost use Rattle.mm_label.specs.Inside.Reading.{components};
 ghost use Rattle.mm_label.specs.Text.{text_of};
@@ -15,7 +15,7 @@ ghost use Rattle.mm_label.specs.Refusals.{RefusesLabel, RefusesText, front_of};
 use crate::component::components;
 use crate::decimal::{read, text_of};
 use crate::error::LabelError;
-use crate::spelling::{MOST_BYTES, Spelled, push_spelled};
+use crate::spelling::{LABEL_LIMIT, Spelled, push_spelled};
 use crate::walk::{common_length, is_label, odd_count, segment_start};
 use std::alloc::{AllocError, Global};
 use std::cmp::Ordering;
@@ -190,7 +190,7 @@ impl Ord for Label {
 fn front_bytes(parent: Option<&Label>) -> &[u8]
     ensures value { result.now ≡ bytes_of (front_of (option_map (λ p. p.now) parent.entry)) }
     ensures in_range { IsTrue (all_in_range (front_of (option_map (λ p. p.now) parent.entry))) }
-    ensures short { length result.now ≤ 512 }
+    ensures short { length result.now ≤ label_limit }
 {
     match parent {
         Some(label) => label.as_bytes(),
@@ -210,7 +210,7 @@ pub fn child(alloc: Global, parent: Option<&Label>, segment: &[i64]) -> Result<L
     bytes.extend_from_slice(front)?;
     push_spelled(&mut bytes, segment)?;
     let length = bytes.len();
-    if length > MOST_BYTES {
+    if length > LABEL_LIMIT {
         return Err(LabelError::Full {
             length: length as u64,
         });

@@ -8,8 +8,8 @@ use crate::component::rank;
 use smallvec::SmallVec;
 use std::alloc::AllocError;
 
-/// The most bytes that a label has.
-pub const MOST_BYTES: usize = 512;
+/// The most bytes of a label.
+pub const LABEL_LIMIT: usize = 512;
 
 /// The bytes of a label. Most labels are short, and take no memory of their own.
 pub type Spelled = SmallVec<u8, 16>;

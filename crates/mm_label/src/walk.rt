@@ -6,13 +6,13 @@ ghost use Rattle.mm_label.specs.Label.{SpellsNoLabel, level, lca};
 ghost use Rattle.mm_label.specs.Inside.Reading.{component_at, components, IsSpelled, StartsLastSegment, FindsBoth};
 
 use crate::component::{component_at, is_odd};
-use crate::spelling::MOST_BYTES;
+use crate::spelling::LABEL_LIMIT;
 
 /// Whether the bytes spell a label.
 pub fn is_label(bytes: &[u8]) -> bool
     ensures { MatchBool result (IsSpelled bytes.now) (SpellsNoLabel bytes.now) }
 {
-    if bytes.len() > MOST_BYTES {
+    if bytes.len() > LABEL_LIMIT {
         return false;
     }
     let mut rest = bytes;

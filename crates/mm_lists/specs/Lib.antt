@@ -1,5 +1,7 @@
 pub mod Lists
+pub mod Advancing
 pub mod Causes
+pub mod Leaves
 pub mod Full
 pub mod Formed
 pub mod Shortest

@@ -11,6 +11,6 @@ mod shortest;
 
 pub use children::child_to;
 pub use lists::Lists;
-pub use matches::candidate;
+pub use matches::{candidate, next_candidate};
 pub use memory::{MemLists, count_before};
 pub use shortest::{Shortest, find_shortest};

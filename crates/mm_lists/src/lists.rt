@@ -1,9 +1,9 @@
 // The trait of keyword lists: for each word the nodes whose own it is, and the look-ups in them.
-ghost use Rattle.std.specs.Prelude.{◌≡◌, ◌↔◌, ◌+◌, ℕ, Bool, IfOk, IfErr, length};
+ghost use Rattle.std.specs.Prelude.{◌≡◌, ◌+◌, ℕ, Bool, IfOk, length};
 ghost use Rattle.mm_tree.specs.Trees.{Trees};
 ghost use Rattle.mm_tree.specs.Numbering.{Labelled};
 ghost use Rattle.mm_tree.specs.Search.{list_of, worded};
-ghost use Rattle.mm_lists.specs.Causes.{Caused, IsSound};
+ghost use Rattle.mm_lists.specs.Leaves.{Leaves};
 ghost use Rattle.mm_lists.specs.Lists.{IsLeft, IsNext, IsRight, IsRightPast, head_of};
 
 use mm_host::Fault;
@@ -34,11 +34,8 @@ pub trait Lists {
     /// How many nodes the list of the word has.
     fn count<L: Ledger>(&mut self, word: &Word, steps: &mut Steps<L>) -> Result<u64, Fault>
         ensures value { (f : Trees Labelled) → stands self.old f → IfOk result (λ n. n ≡ length (list_of word.now (worded f))) }
-        ensures kept { (f : Trees Labelled) → stands self.old f ↔ stands self.new f }
-        ensures ground { same_ground self.old self.new }
-        ensures ticks { steps.new ≡ steps.old + 1 }
-        ensures cause { Caused (fault_count self.old) (fault_count self.new) (spent self.old) (spent self.new) result }
-        ensures sound { (f : Trees Labelled) → stands self.old f → IfErr result IsSound };
+        ensures leaves { Leaves stands same_ground fault_count spent self.old self.new result }
+        ensures ticks { steps.new ≡ steps.old + 1 };
 
     /// Its first node.
     fn first<L: Ledger>(
@@ -47,11 +44,8 @@ pub trait Lists {
         steps: &mut Steps<L>,
     ) -> Result<Option<Label>, Fault>
         ensures value { (f : Trees Labelled) → stands self.old f → IfOk result (λ o. o ≡ head_of (list_of word.now (worded f))) }
-        ensures kept { (f : Trees Labelled) → stands self.old f ↔ stands self.new f }
-        ensures ground { same_ground self.old self.new }
-        ensures ticks { steps.new ≡ steps.old + 1 }
-        ensures cause { Caused (fault_count self.old) (fault_count self.new) (spent self.old) (spent self.new) result }
-        ensures sound { (f : Trees Labelled) → stands self.old f → IfErr result IsSound };
+        ensures leaves { Leaves stands same_ground fault_count spent self.old self.new result }
+        ensures ticks { steps.new ≡ steps.old + 1 };
 
     /// Its first node after the label.
     fn next<L: Ledger>(
@@ -61,11 +55,8 @@ pub trait Lists {
         steps: &mut Steps<L>,
     ) -> Result<Option<Label>, Fault>
         ensures value { (f : Trees Labelled) → stands self.old f → IfOk result (λ o. IsNext (list_of word.now (worded f)) at.now o) }
-        ensures kept { (f : Trees Labelled) → stands self.old f ↔ stands self.new f }
-        ensures ground { same_ground self.old self.new }
-        ensures ticks { steps.new ≡ steps.old + 1 }
-        ensures cause { Caused (fault_count self.old) (fault_count self.new) (spent self.old) (spent self.new) result }
-        ensures sound { (f : Trees Labelled) → stands self.old f → IfErr result IsSound };
+        ensures leaves { Leaves stands same_ground fault_count spent self.old self.new result }
+        ensures ticks { steps.new ≡ steps.old + 1 };
 
     /// Its last node at or before the label.
     fn left<L: Ledger>(
@@ -75,11 +66,8 @@ pub trait Lists {
         steps: &mut Steps<L>,
     ) -> Result<Option<Label>, Fault>
         ensures value { (f : Trees Labelled) → stands self.old f → IfOk result (λ o. IsLeft (list_of word.now (worded f)) at.now o) }
-        ensures kept { (f : Trees Labelled) → stands self.old f ↔ stands self.new f }
-        ensures ground { same_ground self.old self.new }
-        ensures ticks { steps.new ≡ steps.old + 1 }
-        ensures cause { Caused (fault_count self.old) (fault_count self.new) (spent self.old) (spent self.new) result }
-        ensures sound { (f : Trees Labelled) → stands self.old f → IfErr result IsSound };
+        ensures leaves { Leaves stands same_ground fault_count spent self.old self.new result }
+        ensures ticks { steps.new ≡ steps.old + 1 };
 
     /// Its first node at or after the label.
     fn right<L: Ledger>(
@@ -89,11 +77,8 @@ pub trait Lists {
         steps: &mut Steps<L>,
     ) -> Result<Option<Label>, Fault>
         ensures value { (f : Trees Labelled) → stands self.old f → IfOk result (λ o. IsRight (list_of word.now (worded f)) at.now o) }
-        ensures kept { (f : Trees Labelled) → stands self.old f ↔ stands self.new f }
-        ensures ground { same_ground self.old self.new }
-        ensures ticks { steps.new ≡ steps.old + 1 }
-        ensures cause { Caused (fault_count self.old) (fault_count self.new) (spent self.old) (spent self.new) result }
-        ensures sound { (f : Trees Labelled) → stands self.old f → IfErr result IsSound };
+        ensures leaves { Leaves stands same_ground fault_count spent self.old self.new result }
+        ensures ticks { steps.new ≡ steps.old + 1 };
 
     /// Its first node after the whole subtree of the label.
     fn right_past<L: Ledger>(
@@ -103,11 +88,8 @@ pub trait Lists {
         steps: &mut Steps<L>,
     ) -> Result<Option<Label>, Fault>
         ensures value { (f : Trees Labelled) → stands self.old f → IfOk result (λ o. IsRightPast (list_of word.now (worded f)) at.now o) }
-        ensures kept { (f : Trees Labelled) → stands self.old f ↔ stands self.new f }
-        ensures ground { same_ground self.old self.new }
-        ensures ticks { steps.new ≡ steps.old + 1 }
-        ensures cause { Caused (fault_count self.old) (fault_count self.new) (spent self.old) (spent self.new) result }
-        ensures sound { (f : Trees Labelled) → stands self.old f → IfErr result IsSound };
+        ensures leaves { Leaves stands same_ground fault_count spent self.old self.new result }
+        ensures ticks { steps.new ≡ steps.old + 1 };
 
     /// How often what they stand over has failed. It never falls.
     fn faults(&self) -> u64

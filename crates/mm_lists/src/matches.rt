@@ -1,14 +1,16 @@
 //! The deepest node above a given one at which every list is met, by left and right matches (Indexed
 //! Lookup Eager: Xu and Papakonstantinou, SIGMOD 2005).
 
-ghost use Rattle.std.specs.Prelude.{◌≡◌, ◌↔◌, ◌+◌, ◌*◌, ◌≤◌, ◌<◌, List, [], ◌∷◌, ◌++◌, IfOk, IfErr, IsTrue, true, length, get_or};
+ghost use Rattle.std.specs.Prelude.{ℕ, drop, ◌≡◌, ◌+◌, ◌*◌, ◌≤◌, ◌<◌, List, [], ◌∷◌, ◌++◌, IfOk, IsTrue, true, length, get_or};
 ghost use Rattle.mm_tree.specs.Trees.{Trees};
 ghost use Rattle.mm_tree.specs.Numbering.{Labelled};
 ghost use Rattle.mm_tree.specs.Forests.{is_well_formed};
 ghost use Rattle.mm_tree.specs.Search.{list_of, lists_of, worded};
-ghost use Rattle.mm_lists.specs.Causes.{Caused, IsSound};
+ghost use Rattle.mm_lists.specs.Leaves.{Leaves};
 ghost use Rattle.mm_label.specs.Fronts.{Label, Within, Meets};
 ghost use Rattle.mm_lists.specs.Full.{MeetsAll, IsCandidate};
+ghost use Rattle.mm_lists.specs.Lists.{head_of};
+ghost use Rattle.mm_lists.specs.Advancing.{Advances};
 ghost use Rattle.mm_lists.specs.Inside.Narrowing.{deeper, narrowed, or_empty, ancestor_with};
 
 use crate::lists::Lists;
@@ -71,10 +73,7 @@ fn narrow_by<X: Lists, L: Ledger>(
 ) -> Result<Option<Label>, Fault>
     ensures value { (f : Trees Labelled) (ls : List (List Label)) → X.stands lists.old f → Meets [] (list_of word.now (worded f)) → IsCandidate ls v.now (or_empty x)
         → IfOk result (λ y. IsCandidate (ls ++ list_of word.now (worded f) ∷ []) v.now (or_empty y)) }
-    ensures kept { (f : Trees Labelled) → X.stands lists.old f ↔ X.stands lists.new f }
-    ensures ground { X.same_ground lists.old lists.new }
-    ensures cause { Caused (X.fault_count lists.old) (X.fault_count lists.new) (X.spent lists.old) (X.spent lists.new) result }
-    ensures sound { (f : Trees Labelled) → X.stands lists.old f → IfErr result IsSound }
+    ensures leaves { Leaves X.stands X.same_ground X.fault_count X.spent lists.old lists.new result }
     ensures cost { steps.new ≤ steps.old + 2 }
 {
     let left = lists.left(word, v, steps)?;
@@ -95,10 +94,7 @@ fn narrow_at<X: Lists, L: Ledger>(
 ) -> Result<Option<Label>, Fault>
     ensures value { (f : Trees Labelled) (ls : List (List Label)) → X.stands lists.old f → Meets [] (list_of word.now (worded f)) → (skip ≡ true → Within v.now (list_of word.now (worded f))) → IsCandidate ls v.now (or_empty x)
         → IfOk result (λ y. IsCandidate (ls ++ list_of word.now (worded f) ∷ []) v.now (or_empty y)) }
-    ensures kept { (f : Trees Labelled) → X.stands lists.old f ↔ X.stands lists.new f }
-    ensures ground { X.same_ground lists.old lists.new }
-    ensures cause { Caused (X.fault_count lists.old) (X.fault_count lists.new) (X.spent lists.old) (X.spent lists.new) result }
-    ensures sound { (f : Trees Labelled) → X.stands lists.old f → IfErr result IsSound }
+    ensures leaves { Leaves X.stands X.same_ground X.fault_count X.spent lists.old lists.new result }
     ensures cost { steps.new ≤ steps.old + 2 }
     ensures skipped { skip ≡ true → steps.new ≡ steps.old }
 {
@@ -121,10 +117,7 @@ pub fn candidate<X: Lists, L: Ledger>(
     requires { own < length words.now }
     ensures value { (f : Trees Labelled) → IsTrue (is_well_formed f) → X.stands lists.old f → MeetsAll [] (lists_of words.now (worded f)) → Within v.now (list_of (get_or words.now own []) (worded f))
         → IfOk result (λ c. IsCandidate (lists_of words.now (worded f)) v.now (or_empty c)) }
-    ensures kept { (f : Trees Labelled) → X.stands lists.old f ↔ X.stands lists.new f }
-    ensures ground { X.same_ground lists.old lists.new }
-    ensures cause { Caused (X.fault_count lists.old) (X.fault_count lists.new) (X.spent lists.old) (X.spent lists.new) result }
-    ensures sound { (f : Trees Labelled) → X.stands lists.old f → IfErr result IsSound }
+    ensures leaves { Leaves X.stands X.same_ground X.fault_count X.spent lists.old lists.new result }
     ensures cost { steps.new + 2 ≤ steps.old + 2 * length words.now }
 {
     let mut x = Some(v.copy(alloc)?);
@@ -132,4 +125,29 @@ pub fn candidate<X: Lists, L: Ledger>(
         x = narrow_at(alloc, x, i == own, word, v, lists, steps)?;
     }
     Ok(x)
+}
+
+/// The candidate of the node at which a walk along the list of the word at `own` stands, and None past its
+/// end. The walk then stands at the next node. The candidate costs two steps for each other list, the
+/// next node one.
+pub fn next_candidate<X: Lists, L: Ledger>(
+    alloc: Global,
+    words: &[Word],
+    own: usize,
+    at: &mut Option<Label>,
+    lists: &mut X,
+    steps: &mut Steps<L>,
+) -> Result<Option<Label>, Fault>
+    requires { own < length words.now }
+    ensures value { (f : Trees Labelled) (i : ℕ) → IsTrue (is_well_formed f) → X.stands lists.old f → MeetsAll [] (lists_of words.now (worded f)) → at.old ≡ head_of (drop i (list_of (get_or words.now own []) (worded f)))
+        → IfOk result (Advances (lists_of words.now (worded f)) (list_of (get_or words.now own []) (worded f)) i at.old at.new) }
+    ensures leaves { Leaves X.stands X.same_ground X.fault_count X.spent lists.old lists.new result }
+    ensures cost { steps.new + 1 ≤ steps.old + 2 * length words.now }
+{
+    let Some(v) = at.take() else {
+        return Ok(None);
+    };
+    let found = candidate(alloc, words, own, &v, lists, steps)?;
+    *at = lists.next(&words[own], &v, steps)?;
+    Ok(found)
 }

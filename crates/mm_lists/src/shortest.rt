@@ -1,9 +1,9 @@
 // The shortest keyword list of a query's words.
-ghost use Rattle.std.specs.Prelude.{◌≡◌, ◌↔◌, ◌+◌, ◌≤◌, ◌<◌, IfOk, IfErr, length};
+ghost use Rattle.std.specs.Prelude.{◌≡◌, ◌+◌, ◌≤◌, ◌<◌, IfOk, length};
 ghost use Rattle.mm_tree.specs.Trees.{Trees};
 ghost use Rattle.mm_tree.specs.Numbering.{Labelled};
 ghost use Rattle.mm_tree.specs.Search.{worded};
-ghost use Rattle.mm_lists.specs.Causes.{Caused, IsSound};
+ghost use Rattle.mm_lists.specs.Leaves.{Leaves};
 ghost use Rattle.mm_lists.specs.Shortest.{Betters, IsShortest};
 
 use crate::lists::Lists;
@@ -38,10 +38,7 @@ pub fn find_shortest<X: Lists, L: Ledger>(
     requires { 0 < length words.now }
     ensures value { (f : Trees Labelled) → X.stands lists.old f → IfOk result (λ s. IsShortest words.now (worded f) s.at s.size) }
     ensures within { IfOk result (λ s. s.at < length words.now) }
-    ensures kept { (f : Trees Labelled) → X.stands lists.old f ↔ X.stands lists.new f }
-    ensures ground { X.same_ground lists.old lists.new }
-    ensures cause { Caused (X.fault_count lists.old) (X.fault_count lists.new) (X.spent lists.old) (X.spent lists.new) result }
-    ensures sound { (f : Trees Labelled) → X.stands lists.old f → IfErr result IsSound }
+    ensures leaves { Leaves X.stands X.same_ground X.fault_count X.spent lists.old lists.new result }
     ensures cost { steps.new ≤ steps.old + length words.now }
 {
     let mut best = Shortest {

@@ -132,8 +132,8 @@ module _ (root : Mark) (others : List Mark) (t : AreOfTree root others) where
       let s : length p.0.label < n = omega (arith, h, ap length p.2, shorter m (inr w)) in
       front_trans root.label p.0.label m.label (below n p.0 s p.1) (subst (λ z. Front z m.label) (sym p.2) (parent_front m.label))
 
-  at_or_below : (m : Mark) → Within m (root ∷ others) → Front root.label m.label
-  at_or_below m w = below (suc (length m.label)) m (omega arith) w
+  below_root : (m : Mark) → Within m (root ∷ others) → Front root.label m.label
+  below_root m w = below (suc (length m.label)) m (omega arith) w
 
   root_unbeaten : is_beaten (root ∷ others) root ≡ true → ⊥
   root_unbeaten h = by (rival_of (root ∷ others) root h)
@@ -142,13 +142,13 @@ module _ (root : Mark) (others : List Mark) (t : AreOfTree root others) where
       by (n, inl e, s, u) = not_under_itself root.mask (subst (λ (q : Mark). under root.mask q.mask ≡ true) e u)
       by (n, inr w, s, u) =
           let p = parent_mark n w in
-          let l = front_length root.label p.0.label (at_or_below p.0 p.1) in
+          let l = front_length root.label p.0.label (below_root p.0 p.1) in
           omega (arith, l, ap length p.2, ap length s, shorter root (inl refl))
 
   root_safe : Safe (root ∷ others) root
   unfolding Safe
   root_safe p w f b =
-      let e : p ≡ root = one_mark (root ∷ others) p root ascending w (inl refl) (front_antisym p.label root.label f (at_or_below p w)) in
+      let e : p ≡ root = one_mark (root ∷ others) p root ascending w (inl refl) (front_antisym p.label root.label f (below_root p w)) in
       root_unbeaten (subst (λ (q : Mark). is_beaten (root ∷ others) q ≡ true) e b)
 
   parent_safe : (m p : Mark) → p.label ≡ parent m.label → Safe (root ∷ others) m → Safe (root ∷ others) p

@@ -7,8 +7,8 @@ use Rattle.std.proofs.lemmas.Bool.{and_parts, and_from}
 use Rattle.mm_label.specs.Label.{whole}
 use Rattle.mm_match.specs.declared.mark.Mark.{Mark}
 use Rattle.mm_label.specs.Fronts.{Label, Front, is_front, Meets, same, parent, unless_empty}
-use Rattle.mm_match.specs.Marks.{labels, IsOnPath, mask_from, mask_at}
-use Rattle.mm_match.specs.Inside.Passing.{is_between, more, let_in, gathered, or_above, or_empty, is_above}
+use Rattle.mm_match.specs.Marks.{labels, IsOnPath, at_or_below, mask_from, mask_at}
+use Rattle.mm_match.specs.Inside.Passing.{is_between, more, let_in, gathered, or_empty, is_above}
 use Rattle.mm_label.specs.Facts.Fronts.{front_refl, front_trans, front_yes, is_front_of, front_no, same_is, same_of}
 use Rattle.mm_match.proofs.Siblings.{here}
 use Rattle.mm_match.proofs.Ties.{key_is, key_of}
@@ -29,7 +29,7 @@ so_far root label at x words mask = cond (is_between root x label && not (is_abo
 pub not_empty : (root x : Label) → (root ≡ [] → ⊥) → Front root x → x ≡ [] → ⊥
 not_empty root x n f e = n (front_none root (subst (Front root) e f))
 
-pub above_is : (root p x : Label) → (root ≡ [] → ⊥) → Front root x → is_above x (or_above root (unless_empty p)) ≡ is_front x p
+pub above_is : (root p x : Label) → (root ≡ [] → ⊥) → Front root x → is_above x (at_or_below root (unless_empty p)) ≡ is_front x p
 above_is root [] [] n f = absurd (n (front_none root f))
 above_is root [] (c ∷ x) n f = refl
 above_is root (c ∷ p) x n f = by (is_front root (c ∷ p)) refl
@@ -38,11 +38,11 @@ above_is root (c ∷ p) x n f = by (is_front root (c ∷ p)) refl
     other true e h = absurd (front_no root (c ∷ p) e (front_trans root x (c ∷ p) f (front_yes x (c ∷ p) h)))
     other false e h = sym h
 
-    by : (t : Bool) → is_front root (c ∷ p) ≡ t → is_above x (or_above root (Some (c ∷ p))) ≡ is_front x (c ∷ p)
+    by : (t : Bool) → is_front root (c ∷ p) ≡ t → is_above x (at_or_below root (Some (c ∷ p))) ≡ is_front x (c ∷ p)
     by true e = ap (λ (t : Bool). is_above x (cond t (Some (c ∷ p)) None)) e
     by false e = ap (λ (t : Bool). is_above x (cond t (Some (c ∷ p)) None)) e ∙ other (is_front x (c ∷ p)) e refl
 
-pub stands_at : (root label p : Label) → whole p ≡ p → Front p label → Stands root label (or_above root (unless_empty p))
+pub stands_at : (root label p : Label) → whole p ≡ p → Front p label → Stands root label (at_or_below root (unless_empty p))
 stands_at root label [] w f = tt
 stands_at root label (c ∷ p) w f = by (is_front root (c ∷ p)) refl
   where
@@ -50,7 +50,7 @@ stands_at root label (c ∷ p) w f = by (is_front root (c ∷ p)) refl
     by true e = (w, front_yes root (c ∷ p) e, f)
     by false e = tt
 
-pub shorter_at : (root p : Label) (n : ℕ) → length p < n → length (or_empty (or_above root (unless_empty p))) < n
+pub shorter_at : (root p : Label) (n : ℕ) → length p < n → length (or_empty (at_or_below root (unless_empty p))) < n
 shorter_at root [] n l = l
 shorter_at root (c ∷ p) n l = by (is_front root (c ∷ p))
   where
@@ -73,10 +73,10 @@ between_is root x label e =
 pub between_of : (root x label : Label) → whole x ≡ x → Front root x → Front x label → is_between root x label ≡ true
 between_of root x label w f g = and_from (same (whole x) x) (is_front root x && is_front x label) (same_of (whole x) x w) (and_from (is_front root x) (is_front x label) (is_front_of root x f) (is_front_of x label g))
 
-pub starts : (root label x : Label) (words : ℕ) (mask : Option ℕ) → (root ≡ [] → ⊥) → so_far root label (or_above root (unless_empty label)) x words mask ≡ mask
+pub starts : (root label x : Label) (words : ℕ) (mask : Option ℕ) → (root ≡ [] → ⊥) → so_far root label (at_or_below root (unless_empty label)) x words mask ≡ mask
 starts root label x words mask n = by (is_between root x label) refl
   where
-    by : (t : Bool) → is_between root x label ≡ t → cond (t && not (is_above x (or_above root (unless_empty label)))) (more mask words) mask ≡ mask
+    by : (t : Bool) → is_between root x label ≡ t → cond (t && not (is_above x (at_or_below root (unless_empty label)))) (more mask words) mask ≡ mask
     by true e =
         let b = between_is root x label e in
         ap (λ (t : Bool). cond (not t) (more mask words) mask) (above_is root label x n b.below ∙ is_front_of x label b.above)
@@ -108,7 +108,7 @@ passes a x w n = by (is_front x (parent a)) (is_front x a) refl refl
 pub goes_on : (root label a x : Label) (words : ℕ) (old_at old mid_at mid new : Option ℕ) → (root ≡ [] → ⊥) → Stands root label (Some a)
     → (a ≡ x → (old_at ≡ old)) → mid_at ≡ so_far root label (Some a) a words old_at → mid ≡ so_far root label (Some a) x words old
     → new ≡ cond (is_eq (slice_cmp int_cmp a x)) (more mid_at words) mid
-    → new ≡ so_far root label (or_above root (unless_empty (parent a))) x words old
+    → new ≡ so_far root label (at_or_below root (unless_empty (parent a))) x words old
 goes_on root label a x words old_at old mid_at mid new n s same_old at_a at_x is = by (is_eq (slice_cmp int_cmp a x)) refl
   where
     nonempty : a ≡ [] → ⊥
@@ -117,18 +117,18 @@ goes_on root label a x words old_at old mid_at mid new n s same_old at_a at_x is
     held : mid_at ≡ old_at
     held = at_a ∙ ap (λ (t : Bool). cond (t && not (is_front a a)) (more old_at words) old_at) (between_of root a label s.0 s.1 s.2) ∙ ap (λ (t : Bool). cond (not t) (more old_at words) old_at) (is_front_of a a (front_refl a))
 
-    by_between : (t : Bool) → is_between root x label ≡ t → (x ≡ a → ⊥) → cond (t && not (is_front x a)) (more old words) old ≡ cond (t && not (is_above x (or_above root (unless_empty (parent a))))) (more old words) old
+    by_between : (t : Bool) → is_between root x label ≡ t → (x ≡ a → ⊥) → cond (t && not (is_front x a)) (more old words) old ≡ cond (t && not (is_above x (at_or_below root (unless_empty (parent a))))) (more old words) old
     by_between true e d =
         let b = between_is root x label e in
         ap (λ (t : Bool). cond (not t) (more old words) old) (sym (above_is root (parent a) x n b.below ∙ passes a x b.is_whole d))
     by_between false e d = refl
 
-    by : (t : Bool) → is_eq (slice_cmp int_cmp a x) ≡ t → new ≡ so_far root label (or_above root (unless_empty (parent a))) x words old
+    by : (t : Bool) → is_eq (slice_cmp int_cmp a x) ≡ t → new ≡ so_far root label (at_or_below root (unless_empty (parent a))) x words old
     by true e =
         let p = key_is a x e in
         is ∙ ap (λ (t : Bool). cond t (more mid_at words) mid) e ∙ ap (λ (m : Option ℕ). more m words) (held ∙ same_old p)
-        ∙ sym (ap (λ (t : Bool). cond (t && not (is_above x (or_above root (unless_empty (parent a))))) (more old words) old) (subst (λ (z : Label). is_between root z label ≡ true) p (between_of root a label s.0 s.1 s.2))
-        ∙ ap (λ (t : Bool). cond (not t) (more old words) old) (subst (λ (z : Label). is_above z (or_above root (unless_empty (parent a))) ≡ false) p (above_is root (parent a) a n s.1 ∙ not_above a nonempty)))
+        ∙ sym (ap (λ (t : Bool). cond (t && not (is_above x (at_or_below root (unless_empty (parent a))))) (more old words) old) (subst (λ (z : Label). is_between root z label ≡ true) p (between_of root a label s.0 s.1 s.2))
+        ∙ ap (λ (t : Bool). cond (not t) (more old words) old) (subst (λ (z : Label). is_above z (at_or_below root (unless_empty (parent a))) ≡ false) p (above_is root (parent a) a n s.1 ∙ not_above a nonempty)))
     by false e =
         is ∙ ap (λ (t : Bool). cond t (more mid_at words) mid) e ∙ at_x
         ∙ by_between (is_between root x label) refl (λ d. let k = key_of a x (sym d) in absurd cc)

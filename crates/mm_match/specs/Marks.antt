@@ -1,5 +1,5 @@
 -- Marks: nodes with words of a query as bits. What a node's mask is, and which marks are kept.
-use Rattle.std.specs.Prelude.{ℕ, Bool, not, ◌&&◌, List, [], ◌∷◌, ◌≡◌, nat_eq, cond, map}
+use Rattle.std.specs.Prelude.{ℕ, Bool, not, ◌&&◌, List, [], ◌∷◌, ◌≡◌, nat_eq, cond, map, Option, Some, None, if◌then◌else◌}
 use Rattle.std.specs.List.{list_any, filter}
 use Rattle.std.specs.Int.Bits.{bit_and, bit_or}
 use Rattle.mm_label.specs.Label.{whole}
@@ -19,6 +19,11 @@ pub record IsOnPath (root : Label) (matches : List Mark) (x : Label) : Type 0 wh
   pub is_whole : whole x ≡ x
   pub below : Front root x
   pub above : Meets x (labels matches)
+
+-- a label, where it lies at or below the root
+abbrev pub at_or_below : Label → Option Label → Option Label
+at_or_below root None = None
+at_or_below root (Some x) = if is_front root x then Some x else None
 
 -- the words so far, and those of the matches at or below the node
 abbrev pub mask_from : ℕ → Label → List Mark → ℕ

@@ -9,7 +9,7 @@ mod paths;
 mod pruning;
 
 pub use mark::Mark;
-pub use paths::masks;
+pub use paths::{at_or_below, masks};
 pub use pruning::prune;
 
 #[cfg(test)]

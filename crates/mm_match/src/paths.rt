@@ -7,8 +7,8 @@ ghost use Rattle.std.specs.List.Sorted.{IsStrictlySortedBy};
 ghost use Rattle.std.specs.BTreeMap.{keys};
 ghost use Rattle.mm_label.specs.Fronts.{Ascends, Label, Within};
 ghost use Rattle.mm_match.specs.declared.mark.Mark.{Mark};
-ghost use Rattle.mm_match.specs.Marks.{IsOnPath, labels, mask_at};
-ghost use Rattle.mm_match.specs.Inside.Passing.{gathered, let_in, marks_of, mask_in, more, or_above};
+ghost use Rattle.mm_match.specs.Marks.{IsOnPath, at_or_below, labels, mask_at};
+ghost use Rattle.mm_match.specs.Inside.Passing.{gathered, let_in, marks_of, mask_in, more};
 
 use crate::mark::Mark;
 use crate::parents::parent_of;
@@ -29,9 +29,9 @@ fn add(masks: &mut Masks, label: Label, words: u32) -> Result<(), AllocError>
     Ok(())
 }
 
-/// The label where it lies at or below the root.
-fn or_above(root: &Label, at: Option<Label>) -> Option<Label>
-    ensures { result ≡ or_above root.now at }
+/// The label, where it lies at or below the root.
+pub fn at_or_below(root: &Label, at: Option<Label>) -> Option<Label>
+    ensures { result ≡ at_or_below root.now at }
 {
     match at {
         Some(label) => {
@@ -51,10 +51,10 @@ fn let_in(alloc: Global, masks: &mut Masks, root: &Label, mark: &Mark) -> Result
 {
     let _ = root.as_bytes();
     let _ = mark.label.as_bytes();
-    let mut at = or_above(root, Some(mark.label.copy(alloc)?));
+    let mut at = at_or_below(root, Some(mark.label.copy(alloc)?));
     while let Some(label) = at {
         let parent = parent_of(alloc, &label)?;
-        at = or_above(root, parent);
+        at = at_or_below(root, parent);
         add(masks, label, mark.mask)?;
     }
     Ok(())

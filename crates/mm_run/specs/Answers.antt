@@ -14,7 +14,7 @@ use Rattle.mm_tree.specs.declared.refusal.Refusal.{Refusal}
 use Rattle.mm_tree.specs.declared.refusal.Refusal.TheVariants as refusal
 use Rattle.mm_tree.specs.Trees.{Trees, Tree, one, nodes, levels}
 use Rattle.mm_tree.specs.Numbering.{Labelled}
-use Rattle.mm_tree.specs.Forests.{next_label, load, load_refusal}
+use Rattle.mm_tree.specs.Forests.{next_label, load, load_refusal, level_limit}
 use Rattle.mm_tree.specs.Edits.{found, has_node, is_inside, is_text_node, subtree_size, inserted_label, insert, insert_refusal, delete, delete_refusal, replace, replace_refusal}
 use Rattle.mm_tree.specs.Search.{worded, slca}
 use Rattle.mm_tree.specs.Elca.{elca}
@@ -72,7 +72,7 @@ first_cause (Some r) second = Some r
 
 -- with a tree: it has too many levels, or what the forest says
 abbrev pub tree_refusal : Planned → Tree Kind → Option Refusal
-tree_refusal plan t = first_cause plan.target (if nat_le (levels (one t)) 200 then plan.refusal t else Some refusal.Deep)
+tree_refusal plan t = first_cause plan.target (if nat_le (levels (one t)) level_limit then plan.refusal t else Some refusal.Deep)
 
 abbrev pub RefusesFirst : Option Refusal → Refusal → Trees Labelled → List ℕ → Trees Labelled → Type 0
 RefusesFirst None other forest reply after = Refuses forest other reply after

@@ -1,20 +1,9 @@
 // What a command line asks for.
 ghost use Rattle.std.specs.Prelude.{◌≡◌, IfOk};
-ghost use Rattle.std.specs.Io.BufRead.{strip_last};
 ghost use Rattle.mm_run.specs.Forms.{form_of, has_payload, takes_payload, ends_run, quits};
 
 use mm_command::{Line, LineError, read_line};
 use std::alloc::{AllocError, Global};
-
-/// A line without one carriage return at its end.
-pub fn without_return(line: &[u8]) -> &[u8]
-    ensures { result.now ≡ strip_last 13 line.now }
-{
-    match line {
-        [text @ .., b'\r'] => text,
-        _ => line,
-    }
-}
 
 /// What a command line asks for, or None where it is in no form.
 pub fn form_of(alloc: Global, line: &[u8]) -> Result<Option<Line>, AllocError>

@@ -8,10 +8,9 @@ ghost use Rattle.mm_run.specs.Inside.Step.{faults_after, EndsRow, GivesRow, Give
 
 use crate::buffer::Buffer;
 use crate::command::{Body, Command, PAYLOAD_LIMIT, Payload};
-use crate::forms::without_return;
 use crate::line::{Ending, ReadError, read_line};
 use crate::reading::Next;
-use mm_command::Line;
+use mm_command::{Line, without_return};
 use mm_host::Source;
 use std::alloc::{AllocError, Global};
 

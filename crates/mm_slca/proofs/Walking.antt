@@ -4,11 +4,12 @@ use Rattle.std.proofs.lemmas.List.{length-drop, drop_all, take_more}
 use Rattle.mm_label.specs.Fronts.{Label, Front, is_front, Le, Apart, Within, Meets, Ascends}
 use Rattle.mm_lists.specs.Full.{MeetsAll, IsFull, IsFullNode, Deepest, IsCandidate}
 use Rattle.mm_slca.specs.Inside.Walk.{Walked, Stands, finished, taken_done, taken_held}
-use Rattle.mm_lists.specs.Facts.Nearest.{NextMatch}
+use Rattle.mm_lists.specs.Inside.Narrowing.{or_empty}
+use Rattle.mm_lists.specs.Advancing.{Advances}
 use Rattle.mm_lists.specs.Lists.{head_of}
 use Rattle.mm_label.specs.Facts.Fronts.{front_trans, front_antisym, front_le, front_yes, front_no, le_trans, le_total, between_front, apart_trans}
-use Rattle.mm_label.specs.Facts.Lists.{met, meets, within_last, within_cases, meets_longer, within_drop, ascends_tail}
-use Rattle.mm_lists.specs.Facts.Walking.{rising_more, head_none, head_some, next_is, drop_rest}
+use Rattle.mm_label.specs.Facts.Lists.{met, meets, within_last, within_cases, meets_longer, ascends_tail}
+use Rattle.mm_lists.specs.Facts.Walking.{rising_more, head_none, head_some, drop_rest}
 
 pub walk_first : (ls : List (List Label)) → MeetsAll [] ls → Walked ls [] [] []
 walk_first ls f = record {
@@ -121,23 +122,20 @@ held_before v held c m f l h = by (is_front c held)
 
 -- ---- the list, from the i-th node on
 
--- nothing is left: one more changes nothing
-pub stands_none : (ls : List (List Label)) (ms : List Label) (i : ℕ) (done : List Label) (held : Label)
-    → Stands ls ms i done held None → Stands ls ms (i + 1) done held None
-stands_none ls ms i done held s =
+-- one node more is passed, or nothing is left
+pub stands_more : (ls : List (List Label)) (ms : List Label) (i : ℕ) (done : List Label) (held : Label) (was at c : Option Label) → Ascends ms
+    → Stands ls ms i done held was → Advances ls ms i was at c → Stands ls ms (i + 1) (taken_done done held (or_empty c)) (taken_held held (or_empty c)) at
+stands_more ls ms i done held None at c a s g = subst (λ (o : Option Label). Stands ls ms (i + 1) (taken_done done held (or_empty o)) (taken_held held (or_empty o)) at) (sym g.found) (
     let e = head_none (drop i ms) s.here in
     let n : length ms ≤ i = omega (arith, length-drop i ms, ap length e) in
     let t : take (i + 1) ms ≡ take i ms = take_all (i + 1) ms (omega arith) ∙ sym (take_all i ms n) in
     let d : drop (i + 1) ms ≡ [] = drop_all (i + 1) ms (omega arith) in
     record {
       walked = subst (λ (p : List Label). Walked ls done held p) (sym t) s.walked;
-      here = ap head_of (sym d);
+      here = g.here;
       later = λ m w. absurd (subst (Within m) d w);
-    }
-
-pub stands_some : (ls : List (List Label)) (ms : List Label) (i : ℕ) (done : List Label) (held v c : Label) (o : Option Label) → Ascends ms
-    → Stands ls ms i done held (Some v) → IsCandidate ls v c → NextMatch ms v o → Stands ls ms (i + 1) (taken_done done held c) (taken_held held c) o
-stands_some ls ms i done held v c o a s k n =
+    })
+stands_more ls ms i done held (Some v) at c a s g =
     let t = head_some (drop i ms) v s.here in
     let rest = t.0 in
     let r = drop_rest ms i v rest t.1 in
@@ -145,11 +143,11 @@ stands_some ls ms i done held v c o a s k n =
     let le : Le held v = s.later v (subst (Within v) (sym t.1) (inl refl)) in
     let more : take (i + 1) ms ≡ take i ms ++ v ∷ [] = take_more ms i [] r.0 ∙ ap (λ (x : Label). take i ms ++ x ∷ []) r.1 in
     record {
-      walked = subst (λ (p : List Label). Walked ls (taken_done done held c) (taken_held held c) p) (sym more) (walk_step ls done held (take i ms) v c s.walked k le);
-      here = next_is ms i v rest o a t.1 n ∙ ap head_of (sym r.2);
+      walked = subst (λ (p : List Label). Walked ls (taken_done done held (or_empty c)) (taken_held held (or_empty c)) p) (sym more) (walk_step ls done held (take i ms) v (or_empty c) s.walked g.found le);
+      here = g.here;
       later = λ m w.
           let u : Within m rest = subst (Within m) r.2 w in
-          held_before v held c m k.above (asc.0 m u).0 (s.later m (subst (Within m) (sym t.1) (inr u)));
+          held_before v held (or_empty c) m g.found.above (asc.0 m u).0 (s.later m (subst (Within m) (sym t.1) (inr u)));
     }
 
 pub stands_first : (ls : List (List Label)) (ms : List Label) → MeetsAll [] ls → Stands ls ms 0 [] [] (head_of ms)
@@ -166,17 +164,9 @@ pub finished_some : (done : List Label) (h : Label) → 0 < length h → finishe
 finished_some done [] k = absurd (omega arith)
 finished_some done (x ∷ h) k = refl
 
--- the node at which it stands
-pub stands_at : (ls : List (List Label)) (ms : List Label) (i : ℕ) (done : List Label) (held v : Label) → Stands ls ms i done held (Some v)
-    → Within v ms × Le held v
-stands_at ls ms i done held v s =
-    let t = head_some (drop i ms) v s.here in
-    let w : Within v (drop i ms) = subst (Within v) (sym t.1) (inl refl) in
-    (within_drop i ms v w, s.later v w)
-
-pub stands_taken : (ls : List (List Label)) (ms : List Label) (i : ℕ) (done : List Label) (held v c : Label) (at : Option Label) (more : List Label) (then : Label) (o : Option Label) → Ascends ms
-    → Stands ls ms i done held at → at ≡ Some v → IsCandidate ls v c → more ≡ taken_done done held c → then ≡ taken_held held c → NextMatch ms v o → Stands ls ms (i + 1) more then o
-stands_taken ls ms i done held v c at more then o a s e k p q n =
-    subst (λ (d : List Label). Stands ls ms (i + 1) d then o) (sym p)
-    (subst (λ (h : Label). Stands ls ms (i + 1) (taken_done done held c) h o) (sym q)
-    (stands_some ls ms i done held v c o a (subst (Stands ls ms i done held) e s) k n))
+pub stands_taken : (ls : List (List Label)) (ms : List Label) (i : ℕ) (done : List Label) (held : Label) (was at c : Option Label) (more : List Label) (then : Label) → Ascends ms
+    → Stands ls ms i done held was → Advances ls ms i was at c → more ≡ taken_done done held (or_empty c) → then ≡ taken_held held (or_empty c) → Stands ls ms (i + 1) more then at
+stands_taken ls ms i done held was at c more then a s g p q =
+    subst (λ (d : List Label). Stands ls ms (i + 1) d then at) (sym p)
+    (subst (λ (h : Label). Stands ls ms (i + 1) (taken_done done held (or_empty c)) h at) (sym q)
+    (stands_more ls ms i done held was at c a s g))

@@ -1,10 +1,10 @@
 // The walk over the shortest list.
-ghost use Rattle.std.specs.Prelude.{◌≡◌, ◌↔◌, ◌+◌, ◌*◌, ◌≤◌, ◌<◌, ℕ, [], IfOk, IfErr, IsTrue, length, get_or};
+ghost use Rattle.std.specs.Prelude.{◌≡◌, ◌+◌, ◌*◌, ◌≤◌, ◌<◌, ℕ, [], IfOk, OnOk, IsTrue, length, get_or};
 ghost use Rattle.mm_tree.specs.Trees.{Trees};
 ghost use Rattle.mm_tree.specs.Numbering.{Labelled};
 ghost use Rattle.mm_tree.specs.Forests.{is_well_formed};
 ghost use Rattle.mm_tree.specs.Search.{list_of, lists_of, slca, worded};
-ghost use Rattle.mm_lists.specs.Causes.{Caused, IsSound};
+ghost use Rattle.mm_lists.specs.Leaves.{Leaves};
 ghost use Rattle.mm_lists.specs.Full.{MeetsAll};
 ghost use Rattle.mm_lists.specs.Inside.Narrowing.{or_empty};
 ghost use Rattle.mm_slca.specs.Bound.{cost_of};
@@ -14,7 +14,7 @@ use crate::walk::{Walk, finish, take_up};
 use mm_host::Fault;
 use mm_label::Label;
 use mm_list::Items;
-use mm_lists::{Lists, candidate, find_shortest};
+use mm_lists::{Lists, find_shortest, next_candidate};
 use mm_steps::Steps;
 use mm_words::{Query, Word};
 use std::alloc::Global;
@@ -25,30 +25,22 @@ fn pass<X: Lists, L: Ledger>(
     alloc: Global,
     words: &[Word],
     own: usize,
-    at: Option<Label>,
+    at: &mut Option<Label>,
     walk: &mut Walk,
     lists: &mut X,
     steps: &mut Steps<L>,
-) -> Result<Option<Label>, Fault>
+) -> Result<(), Fault>
     requires { own < length words.now }
     ensures value { (f : Trees Labelled) (i : ℕ) → IsTrue (is_well_formed f) → X.stands lists.old f → MeetsAll [] (lists_of words.now (worded f))
-        → Stands (lists_of words.now (worded f)) (list_of (get_or words.now own []) (worded f)) i walk.old.done (or_empty walk.old.held) at
-        → IfOk result (λ next. Stands (lists_of words.now (worded f)) (list_of (get_or words.now own []) (worded f)) (i + 1) walk.new.done (or_empty walk.new.held) next) }
-    ensures kept { (f : Trees Labelled) → X.stands lists.old f ↔ X.stands lists.new f }
-    ensures ground { X.same_ground lists.old lists.new }
-    ensures cause { Caused (X.fault_count lists.old) (X.fault_count lists.new) (X.spent lists.old) (X.spent lists.new) result }
-    ensures sound { (f : Trees Labelled) → X.stands lists.old f → IfErr result IsSound }
+        → Stands (lists_of words.now (worded f)) (list_of (get_or words.now own []) (worded f)) i walk.old.done (or_empty walk.old.held) at.old
+        → OnOk result (Stands (lists_of words.now (worded f)) (list_of (get_or words.now own []) (worded f)) (i + 1) walk.new.done (or_empty walk.new.held) at.new) }
+    ensures leaves { Leaves X.stands X.same_ground X.fault_count X.spent lists.old lists.new result }
     ensures cost { steps.new + 1 ≤ steps.old + 2 * length words.now }
 {
-    match at {
-        None => Ok(None),
-        Some(v) => {
-            let next = candidate(alloc, words, own, &v, lists, steps)?;
-            let held = walk.held.take();
-            walk.held = take_up(&mut walk.done, held, next)?;
-            lists.next(&words[own], &v, steps)
-        }
-    }
+    let found = next_candidate(alloc, words, own, at, lists, steps)?;
+    let held = walk.held.take();
+    walk.held = take_up(&mut walk.done, held, found)?;
+    Ok(())
 }
 
 /// The smallest lowest common ancestors, by the list of one word, which has so many nodes.
@@ -63,10 +55,7 @@ fn walk_list<X: Lists, L: Ledger>(
     requires { own < length words.now }
     ensures value { (f : Trees Labelled) → IsTrue (is_well_formed f) → X.stands lists.old f → MeetsAll [] (lists_of words.now (worded f)) → length (list_of (get_or words.now own []) (worded f)) ≡ size
         → IfOk result (λ r. r ≡ slca words.now (worded f)) }
-    ensures kept { (f : Trees Labelled) → X.stands lists.old f ↔ X.stands lists.new f }
-    ensures ground { X.same_ground lists.old lists.new }
-    ensures cause { Caused (X.fault_count lists.old) (X.fault_count lists.new) (X.spent lists.old) (X.spent lists.new) result }
-    ensures sound { (f : Trees Labelled) → X.stands lists.old f → IfErr result IsSound }
+    ensures leaves { Leaves X.stands X.same_ground X.fault_count X.spent lists.old lists.new result }
     ensures cost { steps.new + size ≤ steps.old + 1 + 2 * length words.now * size }
 {
     let mut walk = Walk {
@@ -76,7 +65,7 @@ fn walk_list<X: Lists, L: Ledger>(
     let mut at = lists.first(&words[own], steps)?;
     // The count ends the loop also over lists that stand for no forest.
     for i in 0..size {
-        at = pass(alloc, words, own, at, &mut walk, lists, steps)?;
+        pass(alloc, words, own, &mut at, &mut walk, lists, steps)?;
     }
     let found = finish(walk)?;
     Ok(found)
@@ -97,10 +86,7 @@ pub fn answers<X: Lists, L: Ledger>(
     steps: &mut Steps<L>,
 ) -> Result<Items<Label>, Fault>
     ensures value { (f : Trees Labelled) → IsTrue (is_well_formed f) → X.stands lists.old f → IfOk result (λ r. r ≡ slca query.now (worded f)) }
-    ensures kept { (f : Trees Labelled) → X.stands lists.old f ↔ X.stands lists.new f }
-    ensures ground { X.same_ground lists.old lists.new }
-    ensures cause { Caused (X.fault_count lists.old) (X.fault_count lists.new) (X.spent lists.old) (X.spent lists.new) result }
-    ensures sound { (f : Trees Labelled) → X.stands lists.old f → IfErr result IsSound }
+    ensures leaves { Leaves X.stands X.same_ground X.fault_count X.spent lists.old lists.new result }
     ensures cost { (f : Trees Labelled) → X.stands lists.old f → steps.new ≤ steps.old + cost_of (lists_of query.now (worded f)) }
 {
     let words = query.words();

@@ -28,9 +28,13 @@ abbrev pub is_name : List ℕ → Bool
 is_name [] = false
 is_name (c ∷ cs) = is_name_start c && list_all is_name_char cs
 
--- the name of an element or of an attribute: at most 512 bytes in UTF-8
+-- the most bytes of a name in UTF-8
+abbrev pub name_limit : ℕ
+name_limit = 512
+
+-- the name of an element or of an attribute: a Name of no more bytes than the limit
 abbrev pub is_short_name : List ℕ → Bool
-is_short_name cs = is_name cs && nat_le (length (encode_utf8_all cs)) 512
+is_short_name cs = is_name cs && nat_le (length (encode_utf8_all cs)) name_limit
 
 a_name : is_name (100 ∷ 99 ∷ 58 ∷ 116 ∷ []) ≡ true
 a_name = refl

@@ -12,7 +12,7 @@ use Rattle.mm_tree.specs.declared.refusal.Refusal.TheVariants.{Absent, Leaf, Top
 use Rattle.mm_tree.specs.Trees.{Trees, none, node, Tree, one, every, nodes, levels}
 use Rattle.mm_tree.specs.Validity.{is_element}
 use Rattle.mm_tree.specs.Numbering.{Labelled, number, has_room}
-use Rattle.mm_tree.specs.Forests.{segment_below, and_then}
+use Rattle.mm_tree.specs.Forests.{segment_below, and_then, level_limit}
 
 -- ---- the node that is meant
 
@@ -134,10 +134,10 @@ is_inside Last = true
 abbrev pub room_refusal : List ℤ → Tree Kind → Option Refusal
 room_refusal x t = if not (every has_room (one (number x t))) then Some Room else None
 
--- of the same below so many levels: a text would stand on top, or a node below level 200, or a label doesn't fit
+-- of the same below so many levels: a text would stand on top, or a node below the last level that a forest may have, or a label doesn't fit
 abbrev pub placed_refusal : ℕ → List ℤ → Tree Kind → Option Refusal
 placed_refusal above x t =
-    if (above == 0) && not (is_element t.0) then Some Top else (if not (nat_le (above + levels (one t)) 200) then Some Deep else room_refusal x t)
+    if (above == 0) && not (is_element t.0) then Some Top else (if not (nat_le (above + levels (one t)) level_limit) then Some Deep else room_refusal x t)
 
 -- no node has the label; a text would get a child; or the new tree can't stand there
 abbrev pub insert_refusal : Place → List ℤ → Tree Kind → Trees Labelled → Option Refusal

@@ -1,5 +1,5 @@
 -- Forests: where labels stand, what makes a forest well formed, and what a load leaves.
-use Rattle.std.specs.Prelude.{ℤ, pos, Bool, true, ◌&&◌, not, nat_le, List, [], ◌∷◌, ◌≡◌, refl, length, drop, Option, Some, None, if◌then◌else◌, ⊤}
+use Rattle.std.specs.Prelude.{ℕ, ℤ, pos, Bool, true, ◌&&◌, not, nat_le, List, [], ◌∷◌, ◌≡◌, refl, length, drop, Option, Some, None, if◌then◌else◌, ⊤}
 use Rattle.std.specs.List.{starts_with}
 use Rattle.std.specs.Ordering.{int_eq, int_cmp, is_lt}
 use Rattle.std.specs.Cmp.Lexicographic.{slice_cmp}
@@ -46,9 +46,13 @@ are_elements (node e inner rest) = is_element e.kind && are_elements rest
 abbrev pub has_valid_kind : Labelled → Bool → Bool
 has_valid_kind e has_children = is_valid_node e.kind has_children
 
--- labels tell where their nodes stand and fit, kinds are valid and texts have no children, the trees' roots are elements, and there are at most 200 levels
+-- the most levels of a forest
+abbrev pub level_limit : ℕ
+level_limit = 200
+
+-- labels tell where their nodes stand and fit, kinds are valid and texts have no children, the trees' roots are elements, and there are no more levels than the limit
 abbrev pub is_well_formed : Trees Labelled → Bool
-is_well_formed forest = are_labelled [] None forest && (every has_room forest && (every has_valid_kind forest && (are_elements forest && nat_le (levels forest) 200)))
+is_well_formed forest = are_labelled [] None forest && (every has_room forest && (every has_valid_kind forest && (are_elements forest && nat_le (levels forest) level_limit)))
 
 -- siblings, and others behind them
 abbrev pub and_then : {A : Type 0} → Trees A → Trees A → Trees A
@@ -76,7 +80,7 @@ load t forest = and_then forest (numbered_behind forest t)
 abbrev pub load_refusal : Tree Kind → Trees Labelled → Option Refusal
 load_refusal t forest =
     if not (is_element t.0) then Some Top
-    else (if not (nat_le (levels (one t)) 200) then Some Deep
+    else (if not (nat_le (levels (one t)) level_limit) then Some Deep
     else (if not (every has_room (numbered_behind forest t)) then Some Room else None))
 
 -- an error is this refusal, or says that memory ran out

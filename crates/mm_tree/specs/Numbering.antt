@@ -1,7 +1,7 @@
 -- Labelled trees, and the labels that a new tree gets.
 use Rattle.std.specs.Prelude.{ℕ, ℤ, pos, ◌+◌, ◌*◌, ◌-◌, Bool, true, false, ◌&&◌, nat_le, List, [], ◌∷◌, ◌++◌, ◌≡◌, refl, map, length, Result, Ok, Err}
 use Rattle.mm_label.specs.Bytes.{bytes_of}
-use Rattle.mm_label.specs.Label.{all_in_range}
+use Rattle.mm_label.specs.Label.{all_in_range, label_limit}
 use Rattle.mm_tree.specs.declared.plain.Kind.{Kind}
 use Rattle.mm_tree.specs.declared.plain.Kind.TheVariants.{Words}
 use Rattle.mm_tree.specs.declared.node.Node.{Node}
@@ -42,9 +42,9 @@ number_from y i (node kind inner rest) =
 abbrev pub number : List ℤ → Tree Kind → Tree Labelled
 number x t = (record { label = x; kind = t.0 }, number_from x 1 t.1)
 
--- the components are in range, and at most 512 bytes spell them
+-- the components are in range, and no more bytes than the limit spell them
 abbrev pub fits : List ℤ → Bool
-fits label = all_in_range label && nat_le (length (bytes_of label)) 512
+fits label = all_in_range label && nat_le (length (bytes_of label)) label_limit
 
 abbrev pub has_room : Labelled → Bool → Bool
 has_room e has_children = fits e.label

@@ -1,4 +1,4 @@
-//! The fragment of a node.
+//! The fragment of a node, and the words that it shows of a node.
 
 ghost use Rattle.std.specs.Prelude.{◌≡◌, ◌&&◌, not, Bool, ℕ, List, IfOk, OnOk, filter};
 ghost use Rattle.std.specs.List.{list_all, list_any};
@@ -21,7 +21,7 @@ use mm_words::{Query, Word};
 use std::alloc::{AllocError, Global};
 
 /// The words of the query that are the node's own, in the query's order.
-fn own_in(alloc: Global, kind: &Kind, query: &[Word]) -> Result<Items<Word>, AllocError>
+pub fn own_in(alloc: Global, kind: &Kind, query: &[Word]) -> Result<Items<Word>, AllocError>
     ensures { IfOk result (λ words. words ≡ filter (λ w. list_any (bytes_eq w) (own kind.now)) query.now) }
 {
     let mut list = Vec::new(alloc);

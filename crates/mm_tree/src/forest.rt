@@ -28,10 +28,11 @@ use crate::refusal::{Refusal, TreeError};
 use mm_label::{Label, LabelError, between, child};
 use mm_list::Items;
 pub use place::Place;
+pub use placed::LEVEL_LIMIT;
 use std::alloc::Global;
 use std::marker::Model;
 
-/// What an edit did: the label of the subtree's root, and how many nodes the subtree has_node.
+/// What an edit did: the label of the subtree's root, and how many nodes the subtree has.
 #[derive(Drop)]
 pub struct Done {
     pub label: Label,
@@ -105,7 +106,7 @@ fn load_behind(trees: &mut Items<Node>, alloc: Global, tree: Plain) -> Result<Do
     if is_text(&tree.kind) {
         return Err(TreeError::Refused(Refusal::Top));
     }
-    let Some(nodes) = node_count(&tree, 200) else {
+    let Some(nodes) = node_count(&tree, LEVEL_LIMIT) else {
         return Err(TreeError::Refused(Refusal::Deep));
     };
     let label = next_label(alloc, trees.as_slice())?;
@@ -136,7 +137,7 @@ impl Forest {
         self.trees.as_slice()
     }
 
-    /// The node with the label, or None where no node has_node it.
+    /// The node with the label, or None where no node has it.
     pub fn find(&self, label: &Label) -> Option<&Node>
         ensures node { MatchOption result (found label.now (forest_of self.now) ≡ None) (λ n. found label.now (forest_of self.now) ≡ Some (node_of n.now)) }
         ensures present { MatchOption result (IsTrue (not (has_node label.now (forest_of self.now)))) (λ n. IsTrue (has_node label.now (forest_of self.now))) }

@@ -17,12 +17,12 @@ mod refusal;
 mod search;
 mod text;
 
-pub use forest::{Done, Forest, Place};
+pub use forest::{Done, Forest, LEVEL_LIMIT, Place};
 pub use fragment::{Fragment, Fragments};
 pub use hit::{Hit, Hits};
 pub use node::{Node, Nodes};
 pub use own::own_words;
-pub use plain::{Attribute, Attributes, Kind, Plain, Plains};
+pub use plain::{Attribute, Attributes, Kind, NAME_LIMIT, Plain, Plains};
 pub use refusal::{Refusal, TreeError};
 pub use search::{elca, slca};
 pub use text::Text;

@@ -4,6 +4,9 @@ ghost use Rattle.std.specs.Prelude.{◌≡◌, ◌∷◌, []};
 use crate::text::Text;
 use mm_list::Items;
 
+/// The most bytes of the name of an element or of an attribute.
+pub const NAME_LIMIT: usize = 512;
+
 /// An attribute of an element: its name and its value.
 #[derive(Drop)]
 pub struct Attribute {

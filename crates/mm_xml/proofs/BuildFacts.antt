@@ -11,7 +11,7 @@ use Rattle.mm_xml.specs.Inside.Lexing.{◌>>=◌, Found}
 use Rattle.mm_xml.specs.Inside.Telling.{Sign}
 use Rattle.mm_xml.specs.Inside.Passages.{passage_at, allowed_at}
 use Rattle.mm_xml.specs.Inside.Machine.{State, Before, finish_step, sign_step, deepest_of, Order, sign_may, sign_next, read_from, read_as}
-use Rattle.mm_xml.specs.Refusals.{most_levels}
+use Rattle.mm_tree.specs.Forests.{level_limit}
 use Rattle.mm_xml.specs.Inside.Builds.{Follows, AdvanceFails, FinishFails, Finishes, Gives}
 use Rattle.mm_xml.proofs.Spans.{bind_some}
 use Rattle.mm_xml.proofs.Enough.{read_enough}
@@ -23,8 +23,8 @@ pub begins : (k : ℕ) (s : State) (run : List ℕ) (order : Order) (cs : List �
 unfolding read_as
 begins k s run order cs enough e r = (λ j. read_from k (e j) (r j) order cs) ∙ read_enough k (length cs) Before [] order cs enough (omega arith)
 
-pub shallow_at_first : (s : State) → s ≡ Before → deepest_of s ≤ most_levels
-shallow_at_first s e = subst (λ (s : State). deepest_of s ≤ most_levels) (sym e) (omega arith)
+pub shallow_at_first : (s : State) → s ≡ Before → deepest_of s ≤ level_limit
+shallow_at_first s e = subst (λ (s : State). deepest_of s ≤ level_limit) (sym e) (omega arith)
 
 -- what is left is read after what may stand at its front
 ahead : (k m : ℕ) (s : State) (run : List ℕ) (b : Bool) (order : Order) (rest : List ℕ) → Left k m b rest
@@ -67,7 +67,7 @@ same_end : (k : ℕ) (s : State) (run : List ℕ) (order : Order) (rest : List �
 same_end zero s run order rest e = rw e refl
 same_end (suc k) s run order rest e = rw e refl
 
-pub ends : (r : Result Plain XmlError) (k : ℕ) (s : State) (run : List ℕ) (order start : Order) (rest cs : List ℕ) → Finishes r s (finish_step s run) → rest ≡ [] → read_from k s run order rest ≡ read_as start cs → deepest_of s ≤ most_levels → Gives r (read_as start cs)
+pub ends : (r : Result Plain XmlError) (k : ℕ) (s : State) (run : List ℕ) (order start : Order) (rest cs : List ℕ) → Finishes r s (finish_step s run) → rest ≡ [] → read_from k s run order rest ≡ read_as start cs → deepest_of s ≤ level_limit → Gives r (read_as start cs)
 ends (Ok p) k s run order start rest cs h empty same few = (sym (same_end k s run order rest empty ∙ same) ∙ h.0, h.1 few)
 ends (Err e) k s run order start rest cs h empty same few = subst (λ (x : Option (Tree Kind)). FinishFails e x) (same_end k s run order rest empty ∙ same) h
 

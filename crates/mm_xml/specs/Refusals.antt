@@ -1,20 +1,17 @@
 -- What the reader answers.
-use Rattle.std.specs.Prelude.{ℕ, ◌≡◌, ◌<◌, ◌≤◌, Result, Ok, Err}
+use Rattle.std.specs.Prelude.{◌≡◌, ◌<◌, ◌≤◌, Result, Ok, Err}
 use Rattle.mm_tree.specs.declared.Kind.{Kind}
 use Rattle.mm_tree.specs.declared.Plain.{Plain}
 use Rattle.mm_tree.specs.Trees.{Tree, one, levels, tree_of}
+use Rattle.mm_tree.specs.Forests.{level_limit}
 use Rattle.mm_xml.specs.declared.error.XmlError.{XmlError}
 use Rattle.mm_xml.specs.declared.error.XmlError.TheVariants as error
 
--- the most levels that a tree may have to be given
-abbrev pub most_levels : ℕ
-most_levels = 200
-
 abbrev pub IsShallow : Tree Kind → Type 0
-IsShallow t = levels (one t) ≤ most_levels
+IsShallow t = levels (one t) ≤ level_limit
 
 abbrev pub IsTooDeep : Tree Kind → Type 0
-IsTooDeep t = most_levels < levels (one t)
+IsTooDeep t = level_limit < levels (one t)
 
 -- where the bytes spell the tree: the tree itself, unless it is too deep or memory runs out
 abbrev pub AnswersFor : Result Plain XmlError → Tree Kind → Type 0

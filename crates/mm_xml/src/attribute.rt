@@ -13,7 +13,7 @@ use crate::letters::{is_name_char, is_name_start, is_space, name_span, space_spa
 use crate::reference::{Part, part_of};
 use crate::text::{after, first, is_empty, push};
 use mm_list::Items;
-use mm_tree::{Attribute, Attributes, Text};
+use mm_tree::{Attribute, Attributes, NAME_LIMIT, Text};
 use std::alloc::{AllocError, Global};
 use std::collections::BTreeMap;
 
@@ -40,11 +40,11 @@ fn are_name_chars(text: &str) -> bool
     text.chars().all(|c| is_name_char(c))
 }
 
-/// The name of an element or of an attribute: at most 512 bytes.
+/// The name of an element or of an attribute: no longer than the limit.
 pub fn is_short_name(name: &str) -> bool
     ensures { result ≡ short_name_is (chars name.now) }
 {
-    is_name(name) && name.len() <= 512
+    is_name(name) && name.len() <= NAME_LIMIT
 }
 
 /// Whether no two attributes have one name.

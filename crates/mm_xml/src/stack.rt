@@ -5,7 +5,7 @@ ghost use Rattle.std.specs.Str.{bytes_eq, chars};
 ghost use Rattle.std.specs.List.{list_all};
 ghost use Rattle.mm_tree.specs.Characters.{is_space as space_is};
 ghost use Rattle.mm_tree.specs.Trees.{tree_of};
-ghost use Rattle.mm_xml.specs.Refusals.{most_levels};
+ghost use Rattle.mm_tree.specs.Forests.{level_limit};
 ghost use Rattle.mm_xml.specs.Grammar.{Begin, End, end_name};
 ghost use Rattle.mm_xml.specs.Inside.Machine.{place, leaf_at, text_step, open_step, start_step, end_step, finish_step, finished, frame_tree, closed, Before, depth_of};
 ghost use Rattle.mm_xml.specs.Inside.Builds.{state_of, frame_of, frames_of, Steps, MovesTo, Places, Ends, Finishes};
@@ -14,11 +14,8 @@ use crate::attribute::text_of;
 use crate::error::XmlError;
 use crate::letters::is_blank;
 use mm_list::Items;
-use mm_tree::{Kind, Plain, Text};
+use mm_tree::{Kind, LEVEL_LIMIT, Plain, Text};
 use std::alloc::{AllocError, Global};
-
-/// The most levels that a tree may have. A text counts as a level.
-const MOST_LEVELS: usize = 200;
 
 /// An element that is open, and its children so far.
 #[derive(Drop)]
@@ -88,10 +85,10 @@ impl Stack {
 
     /// Whether a node inside the open elements would be on a level too many.
     fn is_full(&self) -> bool
-        ensures full { IsTrue result → most_levels ≤ depth_of (state_of self.now) }
-        ensures room { result ≡ false → depth_of (state_of self.now) < most_levels }
+        ensures full { IsTrue result → level_limit ≤ depth_of (state_of self.now) }
+        ensures room { result ≡ false → depth_of (state_of self.now) < level_limit }
     {
-        self.frames.len() >= MOST_LEVELS
+        self.frames.len() >= LEVEL_LIMIT as usize
     }
 
     fn begin(&mut self, alloc: Global, kind: Kind) -> Result<(), XmlError>

@@ -1,7 +1,7 @@
 -- The gathering of the matches below a node.
 use Rattle.std.specs.Prelude.{ℕ, ℤ, ◌+◌, ◌≤◌, List, [], ◌∷◌, ◌++◌, ◌≡◌, map, filter, length, Option, Some, None, AllPairs, IsTrue, if◌then◌else◌}
 use Rattle.mm_label.specs.Label.{IsBefore}
-use Rattle.mm_label.specs.Fronts.{Label, is_front, Le, Lt, Apart, Within}
+use Rattle.mm_label.specs.Fronts.{Label, Le, Lt, Apart, Within}
 use Rattle.mm_match.specs.declared.mark.Mark.{Mark}
 use Rattle.mm_tree.specs.Trees.{Trees, none, node, Tree}
 use Rattle.mm_tree.specs.Numbering.{Labelled}
@@ -70,8 +70,3 @@ pub record Passes (f : Trees Labelled) (x : Label) (t : Tree Labelled) (query : 
   pub walked : WalkedBelow f x t query w (done ++ more) (passed + skips) at
   pub one : length more + skips ≡ 1
   pub marks : new ≡ old ++ marked_with bit more
-
--- a label where it lies at or below the root
-abbrev pub within : Label → Option Label → Option Label
-within x None = None
-within x (Some m) = if is_front x m then Some m else None

@@ -1,10 +1,12 @@
 -- A walk along a keyword list, from the first to the last.
-use Rattle.std.proofs.Common.{inl, inr, ◌≡◌, ℕ, ◌+◌, ◌<◌, List, [], ◌∷◌, ◌++◌, refl, ap, sym, subst, ◌∙◌, Some, None, Option, length, drop, arith, get_or}
-use Rattle.std.proofs.lemmas.List.{length-drop, drop_more}
+use Rattle.std.proofs.Common.{inl, inr, ◌≡◌, ℕ, ◌+◌, ◌≤◌, ◌<◌, List, [], ◌∷◌, ◌++◌, refl, ap, sym, subst, ◌∙◌, Some, None, Option, length, drop, arith, get_or}
+use Rattle.std.proofs.lemmas.List.{length-drop, drop_all, drop_more}
 use Rattle.mm_label.specs.Fronts.{Label, Apart, Within, Ascends}
 use Rattle.mm_label.specs.Facts.Fronts.{le_antisym}
 use Rattle.mm_label.specs.Facts.Lists.{within_cases, within_drop, ascends_tail, within_at}
-use Rattle.mm_lists.specs.Full.{Rising}
+use Rattle.mm_lists.specs.Full.{Rising, IsCandidate}
+use Rattle.mm_lists.specs.Inside.Narrowing.{or_empty}
+use Rattle.mm_lists.specs.Advancing.{Advances}
 use Rattle.mm_lists.specs.Lists.{head_of}
 use Rattle.mm_lists.specs.Facts.Nearest.{NextMatch}
 
@@ -45,3 +47,22 @@ drop_rest ms i v rest e =
     let k = drop_more ms i [] h in
     let p : get_or ms i [] ∷ drop (i + 1) ms ≡ v ∷ rest = sym k ∙ e in
     (h, (cc), (cc))
+
+-- the node at which it stands is of the list
+pub stands_within : (ms : List Label) (i : ℕ) (v : Label) → Some v ≡ head_of (drop i ms) → Within v ms
+stands_within ms i v h = let t = head_some (drop i ms) v h in within_drop i ms v (subst (Within v) (sym t.1) (inl refl))
+
+-- past the end nothing changes
+pub advances_none : (ls : List (List Label)) (ms : List Label) (i : ℕ) (was at : Option Label) → was ≡ None → at ≡ None → was ≡ head_of (drop i ms) → Advances ls ms i was at None
+advances_none ls ms i was at e q h =
+    let r = head_none (drop i ms) (sym e ∙ h) in
+    let n : length ms ≤ i = omega (arith, length-drop i ms, ap length r) in
+    let d : drop (i + 1) ms ≡ [] = drop_all (i + 1) ms (omega arith) in
+    subst (λ (o : Option Label). Advances ls ms i o at None) (sym e) (record { here = q ∙ sym (ap head_of d); found = refl })
+
+pub advances_some : (ls : List (List Label)) (ms : List Label) (i : ℕ) (was : Option Label) (v : Label) (c at : Option Label) → Ascends ms → was ≡ Some v → was ≡ head_of (drop i ms)
+    → IsCandidate ls v (or_empty c) → NextMatch ms v at → Advances ls ms i was at c
+advances_some ls ms i was v c at a e h k n =
+    let t = head_some (drop i ms) v (sym e ∙ h) in
+    let r = drop_rest ms i v t.0 t.1 in
+    subst (λ (o : Option Label). Advances ls ms i o at c) (sym e) (record { here = next_is ms i v t.0 at a t.1 n ∙ ap head_of (sym r.2); found = k })

@@ -65,11 +65,6 @@ abbrev pub gathered : Label → Label → Option ℕ → List Mark → Option �
 gathered root x mask [] = mask
 gathered root x mask (m ∷ ms) = gathered root x (let_in root x m mask) ms
 
--- a label where it lies at or below the root
-abbrev pub or_above : Label → Option Label → Option Label
-or_above root None = None
-or_above root (Some x) = cond (is_front root x) (Some x) None
-
 abbrev pub or_empty : Option Label → Label
 or_empty None = []
 or_empty (Some a) = a

@@ -4,13 +4,16 @@ ghost use Rattle.std.specs.Prelude.{◌≡◌, ◌+◌, ◌≤◌, ◌-◌, ◌^
 ghost use Rattle.std.specs.Option.{SomeIff};
 ghost use Rattle.mm_tree.specs.Trees.{levels, nodes, one, tree_of};
 ghost use Rattle.mm_tree.specs.Validity.{is_element};
-ghost use Rattle.mm_tree.specs.Forests.{IsRefusal};
+ghost use Rattle.mm_tree.specs.Forests.{IsRefusal, level_limit};
 ghost use Rattle.mm_tree.specs.Edits.{placed_refusal, room_refusal};
 
 use super::place::Place;
 use crate::measure::nodes_within;
 use crate::plain::{Kind, Plain};
 use crate::refusal::{Refusal, TreeError};
+
+/// The most levels of a forest. A text counts as a level.
+pub const LEVEL_LIMIT: u32 = 200;
 
 pub fn is_text(kind: &Kind) -> bool
     ensures { result ≡ not (is_element kind.now) }
@@ -34,7 +37,7 @@ pub fn node_count(tree: &Plain, most: u32) -> Option<u64>
 pub fn placed(above: u32, tree: &Plain) -> Result<u64, TreeError>
     ensures nodes { IfOk result (λ n. n ≡ min (nodes (one (tree_of tree.now))) (2 ^ 64 - 1)) }
     ensures element { IfOk result (λ n. above ≡ 0 → IsTrue (is_element (tree_of tree.now).0)) }
-    ensures shallow { IfOk result (λ n. above + levels (one (tree_of tree.now)) ≤ 200) }
+    ensures shallow { IfOk result (λ n. above + levels (one (tree_of tree.now)) ≤ level_limit) }
     ensures accepted { IfOk result (λ n. (x : List ℤ) → placed_refusal above x (tree_of tree.now) ≡ room_refusal x (tree_of tree.now)) }
     ensures refused { IfErr result (λ e. (x : List ℤ) → IsRefusal e (placed_refusal above x (tree_of tree.now))) }
 {
@@ -43,7 +46,7 @@ pub fn placed(above: u32, tree: &Plain) -> Result<u64, TreeError>
             return Err(TreeError::Refused(Refusal::Top));
         }
     }
-    let Some(nodes) = node_count(tree, 200u32.saturating_sub(above)) else {
+    let Some(nodes) = node_count(tree, LEVEL_LIMIT.saturating_sub(above)) else {
         return Err(TreeError::Refused(Refusal::Deep));
     };
     Ok(nodes)

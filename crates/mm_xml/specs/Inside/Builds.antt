@@ -19,7 +19,8 @@ use Rattle.mm_xml.specs.Inside.Machine as machine
 use Rattle.mm_xml.specs.Inside.Lexemes.{sign_of}
 use Rattle.mm_xml.specs.Inside.Outlines.{Outlined, outlined}
 use Rattle.mm_xml.specs.Inside.Passages.{allowed_at}
-use Rattle.mm_xml.specs.Refusals.{most_levels, IsShallow, IsTooDeep}
+use Rattle.mm_tree.specs.Forests.{level_limit}
+use Rattle.mm_xml.specs.Refusals.{IsShallow, IsTooDeep}
 
 abbrev pub frame_of : Opened → Frame
 frame_of f = record { kind = f.kind; before = map tree_of f.children.items }
@@ -51,20 +52,20 @@ Follows (Err error.Memory) old new cs = Unit {0}
 
 -- A step that may add a node: there is room for it, or it would be a level too many.
 abbrev pub Steps : {U : Type 0} → Result U XmlError → Bool → State → State → Option State → Type 0
-Steps (Ok u) adds old new moved = (moved ≡ Some new) × (IsTrue adds → depth_of old < most_levels)
+Steps (Ok u) adds old new moved = (moved ≡ Some new) × (IsTrue adds → depth_of old < level_limit)
 Steps (Err error.NotXml) adds old new moved = moved ≡ None
-Steps (Err error.TooDeep) adds old new moved = IsTrue adds × (most_levels ≤ depth_of old)
+Steps (Err error.TooDeep) adds old new moved = IsTrue adds × (level_limit ≤ depth_of old)
 Steps (Err error.Memory) adds old new moved = Unit {0}
 
 -- Several steps that lead nowhere, or too deep if anywhere, or memory ran out.
 abbrev pub PlaceFails : XmlError → Option State → Type 0
 PlaceFails error.NotXml moved = moved ≡ None
-PlaceFails error.TooDeep moved = (s : State) → moved ≡ Some s → most_levels < deepest_of s
+PlaceFails error.TooDeep moved = (s : State) → moved ≡ Some s → level_limit < deepest_of s
 PlaceFails error.Memory moved = Unit {0}
 
 -- Several steps that lead to a new state, and keep within the levels.
 abbrev pub IsPlaced : State → State → Option State → Type 0
-IsPlaced old new moved = (moved ≡ Some new) × (deepest_of old ≤ most_levels → deepest_of new ≤ most_levels)
+IsPlaced old new moved = (moved ≡ Some new) × (deepest_of old ≤ level_limit → deepest_of new ≤ level_limit)
 
 abbrev pub Places : {U : Type 0} → Result U XmlError → State → State → Option State → Type 0
 Places (Ok u) old new moved = IsPlaced old new moved
@@ -97,11 +98,11 @@ Outlines (Err error.Memory) there = Unit {0}
 -- Several steps, to a state and the characters since the last tag.
 abbrev pub AdvanceFails : XmlError → Option (State × List ℕ) → Type 0
 AdvanceFails error.NotXml moved = moved ≡ None
-AdvanceFails error.TooDeep moved = (y : State × List ℕ) → moved ≡ Some y → most_levels < deepest_of y.0
+AdvanceFails error.TooDeep moved = (y : State × List ℕ) → moved ≡ Some y → level_limit < deepest_of y.0
 AdvanceFails error.Memory moved = Unit {0}
 
 abbrev pub Advances : {U : Type 0} → Result U XmlError → State → State → List ℕ → Option (State × List ℕ) → Type 0
-Advances (Ok u) old new run moved = (moved ≡ Some (new, run)) × (deepest_of old ≤ most_levels → deepest_of new ≤ most_levels)
+Advances (Ok u) old new run moved = (moved ≡ Some (new, run)) × (deepest_of old ≤ level_limit → deepest_of new ≤ level_limit)
 Advances (Err e) old new run moved = AdvanceFails e moved
 
 -- the tree, where all is closed
@@ -111,7 +112,7 @@ FinishFails error.TooDeep tree = (t : Tree Kind) → tree ≡ Some t → IsTooDe
 FinishFails error.Memory tree = Unit {0}
 
 abbrev pub Finishes : Result Plain XmlError → State → Option (Tree Kind) → Type 0
-Finishes (Ok p) old tree = (tree ≡ Some (tree_of p)) × (deepest_of old ≤ most_levels → IsShallow (tree_of p))
+Finishes (Ok p) old tree = (tree ≡ Some (tree_of p)) × (deepest_of old ≤ level_limit → IsShallow (tree_of p))
 Finishes (Err e) old tree = FinishFails e tree
 
 -- what is read, with a tree that is too deep told from none

@@ -9,10 +9,10 @@ use Rattle.mm_elca.proofs.candidates.gather.Goals as goal
 
 pub loop-i-init : goal.loop-i-init
 loop-i-init g c = record {
-  kept = λ f. c.first.ensures.kept f;
-  ground = c.first.ensures.ground;
-  later = c.first.ensures.cause.later;
-  unspent = c.in_ok-at.ensures.cause.ok;
+  kept = λ f. c.first.ensures.leaves.kept f;
+  ground = c.first.ensures.leaves.ground;
+  later = c.first.ensures.leaves.cause.later;
+  unspent = c.in_ok-at.ensures.leaves.cause.ok;
   cost = omega arith;
   count = omega (arith, ap length c.new-found.ensures);
   value = λ f w s n.
@@ -21,8 +21,8 @@ loop-i-init g c = record {
       gathering_first (lists_of c.args.words.now (worded f)) (list_of (get_or c.args.words.now c.args.own []) (worded f)) _ c.in_ok-at.at c.new-found.ensures h;
 }
 
-pub returns-in_err-at-2-clause-cost : goal.returns-in_err-at-2-clause-cost
-returns-in_err-at-2-clause-cost g c =
+pub returns-in_err-pass-clause-cost : goal.returns-in_err-pass-clause-cost
+returns-in_err-pass-clause-cost g c =
     let t = steps_so_far (length c.args.words.now) (c.loop-i.i + 1) c.args.size (omega arith) (omega arith) in
     omega (arith, c.pass.ensures.cost, c.loop-i.invariant.cost)
 

@@ -12,5 +12,5 @@ returns-clause-value g c = λ f w s n e.
     let ls = lists_of c.args.words.now (worded f) in
     let ms = list_of (get_or c.args.words.now c.args.own []) (worded f) in
     let k : Gathered ls ms c.in_ok-candidates.candidates = c.in_ok-candidates.ensures.value f w s n e in
-    let j = c.in_ok-found.ensures.value f ((c.gather.ensures.kept f).0 s) (gathered_candidates ls ms c.in_ok-candidates.candidates (λ z h. full_at c.args.words.now c.args.own z (worded f) c.requires h) k c.in_ok-candidates.ensures.order) in
+    let j = c.in_ok-found.ensures.value f ((c.gather.ensures.leaves.kept f).0 s) (gathered_candidates ls ms c.in_ok-candidates.candidates (λ z h. full_at c.args.words.now c.args.own z (worded f) c.requires h) k c.in_ok-candidates.ensures.order) in
     answers_from c.args.words.now (worded f) c.args.own c.in_ok-candidates.candidates c.in_ok-found.found _ (formed f w) c.requires k j c.reverse.ensures

@@ -14,10 +14,10 @@ loop-x-preserved g c =
     let k = length c.args.words.now in
     let m : 2 * length c.args.words.now * length c.loop-x.left ≡ 2 * length c.args.words.now * length c.pop.new.self + 2 * length c.args.words.now = omega (arith, ap (λ (j : ℕ). 2 * length c.args.words.now * j) n) in
     record {
-      kept = λ f. kept_along _ _ _ (c.loop-x.invariant.kept f) (c.judge.ensures.kept f);
-      ground = g.met.X.Lists.same_along _ _ _ c.loop-x.invariant.ground c.judge.ensures.ground;
-      later = omega (arith, c.judge.ensures.cause.later, c.loop-x.invariant.later);
-      unspent = λ u. c.loop-x.invariant.unspent (c.in_ok-judge.ensures.cause.ok u);
+      kept = λ f. kept_along _ _ _ (c.loop-x.invariant.kept f) (c.judge.ensures.leaves.kept f);
+      ground = g.met.X.Lists.same_along _ _ _ c.loop-x.invariant.ground c.judge.ensures.leaves.ground;
+      later = omega (arith, c.judge.ensures.leaves.cause.later, c.loop-x.invariant.later);
+      unspent = λ u. c.loop-x.invariant.unspent (c.in_ok-judge.ensures.leaves.cause.ok u);
       within = omega (arith, n, c.loop-x.invariant.within);
       cost = omega (arith, m, c.in_ok-judge.ensures.cost, c.loop-x.invariant.cost);
       value = λ f s h.

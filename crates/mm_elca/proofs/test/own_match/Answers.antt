@@ -9,20 +9,20 @@ use Rattle.mm_elca.proofs.test.own_match.Goals as goal
 
 pub loop-kid-init : goal.loop-kid-init
 loop-kid-init g c = record {
-  kept = λ f. c.right.ensures.kept f;
-  ground = c.right.ensures.ground;
-  later = c.right.ensures.cause.later;
-  unspent = c.in_ok-found.ensures.cause.ok;
+  kept = λ f. c.right.ensures.leaves.kept f;
+  ground = c.right.ensures.leaves.ground;
+  later = c.right.ensures.leaves.cause.later;
+  unspent = c.in_ok-found.ensures.leaves.cause.ok;
   cost = omega arith;
   value = λ f s a. past_first _ _ _ (right_match _ _ _ (c.in_ok-found.ensures.value f s));
 }
 
 pub loop-kid-preserved : goal.loop-kid-preserved
 loop-kid-preserved g c = record {
-  kept = λ f. kept_along _ _ _ (c.loop-kid.invariant.kept f) (c.skip.ensures.kept f);
-  ground = g.met.X.Lists.same_along _ _ _ c.loop-kid.invariant.ground c.skip.ensures.ground;
-  later = omega (arith, c.skip.ensures.cause.later, c.loop-kid.invariant.later);
-  unspent = λ e. c.loop-kid.invariant.unspent (c.in_ok-found-2.ensures.cause.ok e);
+  kept = λ f. kept_along _ _ _ (c.loop-kid.invariant.kept f) (c.skip.ensures.leaves.kept f);
+  ground = g.met.X.Lists.same_along _ _ _ c.loop-kid.invariant.ground c.skip.ensures.leaves.ground;
+  later = omega (arith, c.skip.ensures.leaves.cause.later, c.loop-kid.invariant.later);
+  unspent = λ e. c.loop-kid.invariant.unspent (c.in_ok-found-2.ensures.leaves.cause.ok e);
   cost = omega (arith, c.skip.ensures.cost, c.loop-kid.invariant.cost);
   value = λ f s a.
       let ms = list_of c.args.word.now (worded f) in

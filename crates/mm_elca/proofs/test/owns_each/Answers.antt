@@ -11,10 +11,10 @@ use Rattle.mm_elca.proofs.test.owns_each.Goals as goal
 
 pub loop-word-preserved : goal.loop-word-preserved
 loop-word-preserved g c = record {
-  kept = λ f. kept_along _ _ _ (c.loop-word.invariant.kept f) (c.own_match.ensures.kept f);
-  ground = g.met.X.Lists.same_along _ _ _ c.loop-word.invariant.ground c.own_match.ensures.ground;
-  later = omega (arith, c.own_match.ensures.cause.later, c.loop-word.invariant.later);
-  unspent = λ e. c.loop-word.invariant.unspent (c.in_ok-here.ensures.cause.ok e);
+  kept = λ f. kept_along _ _ _ (c.loop-word.invariant.kept f) (c.own_match.ensures.leaves.kept f);
+  ground = g.met.X.Lists.same_along _ _ _ c.loop-word.invariant.ground c.own_match.ensures.leaves.ground;
+  later = omega (arith, c.own_match.ensures.leaves.cause.later, c.loop-word.invariant.later);
+  unspent = λ e. c.loop-word.invariant.unspent (c.in_ok-here.ensures.leaves.cause.ok e);
   cost = omega (arith, c.own_match.ensures.cost, c.loop-word.invariant.cost);
   value = λ f s a.
       let x = c.args.x.now in

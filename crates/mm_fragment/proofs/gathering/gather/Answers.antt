@@ -5,10 +5,10 @@ use Rattle.mm_fragment.proofs.gathering.gather.Goals as goal
 
 pub loop-init : goal.loop-init
 loop-init g c = record {
-  kept = λ f. c.right.ensures.kept f;
-  ground = c.right.ensures.ground;
-  later = c.right.ensures.cause.later;
-  unspent = c.in_ok-at.ensures.cause.ok;
+  kept = λ f. c.right.ensures.leaves.kept f;
+  ground = c.right.ensures.leaves.ground;
+  later = c.right.ensures.leaves.cause.later;
+  unspent = c.in_ok-at.ensures.leaves.cause.ok;
   value = λ f t query s k.
       gathered_first f c.args.root.now.label.now t c.args.root.now.answers.now query c.args.word.now c.args.bit c.args.marks.now c.args.steps.now c.right.new.steps c.in_ok-at.at k (c.in_ok-at.ensures.value f s) c.right.ensures.ticks;
 }

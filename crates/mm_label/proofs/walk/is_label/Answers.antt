@@ -14,4 +14,4 @@ returns-in-None c =
     stops c.args.bytes.now c.loop-rest.rest.now c.loop-rest.odd c.loop-rest.invariant (some_left c.loop-rest.rest.now c.loop-rest-test.ensures) c.in-None.ensures
 
 pub returns : goal.returns
-returns c = ends c.args.bytes.now c.loop-rest.rest.now c.loop-rest.odd c.loop-rest.invariant (none_left c.loop-rest.rest.now c.loop-rest-test.ensures) c.if-bytes-gt-MOST_BYTES.false
+returns c = ends c.args.bytes.now c.loop-rest.rest.now c.loop-rest.odd c.loop-rest.invariant (none_left c.loop-rest.rest.now c.loop-rest-test.ensures) c.if-bytes-gt-LABEL_LIMIT.false

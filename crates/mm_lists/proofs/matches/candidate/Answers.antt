@@ -24,10 +24,10 @@ loop-i-init g c = record {
 
 pub loop-i-preserved : goal.loop-i-preserved
 loop-i-preserved g c = record {
-  kept = λ f. kept_along _ _ _ (c.loop-i.invariant.kept f) (c.narrow_at.ensures.kept f);
-  ground = g.met.X.Lists.same_along _ _ _ c.loop-i.invariant.ground c.narrow_at.ensures.ground;
-  later = omega (arith, c.narrow_at.ensures.cause.later, c.loop-i.invariant.later);
-  unspent = λ e. c.loop-i.invariant.unspent (c.in_ok-x.ensures.cause.ok e);
+  kept = λ f. kept_along _ _ _ (c.loop-i.invariant.kept f) (c.narrow_at.ensures.leaves.kept f);
+  ground = g.met.X.Lists.same_along _ _ _ c.loop-i.invariant.ground c.narrow_at.ensures.leaves.ground;
+  later = omega (arith, c.narrow_at.ensures.leaves.cause.later, c.loop-i.invariant.later);
+  unspent = λ e. c.loop-i.invariant.unspent (c.in_ok-x.ensures.leaves.cause.ok e);
   before = λ k. let m = c.loop-i.invariant.before (omega arith) in omega (arith, c.narrow_at.ensures.cost);
   past = λ k. elim (cases_lt c.args.own c.loop-i.i) [
     | inl q ↦ let m = c.loop-i.invariant.past q in omega (arith, c.narrow_at.ensures.cost)

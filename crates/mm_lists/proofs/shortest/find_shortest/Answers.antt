@@ -8,10 +8,10 @@ use Rattle.mm_lists.proofs.shortest.find_shortest.Goals as goal
 
 pub loop-i-preserved : goal.loop-i-preserved
 loop-i-preserved g c = record {
-  kept = λ f. kept_along _ _ _ (c.loop-i.invariant.kept f) (c.count.ensures.kept f);
-  ground = g.met.X.Lists.same_along _ _ _ c.loop-i.invariant.ground c.count.ensures.ground;
-  later = omega (arith, c.count.ensures.cause.later, c.loop-i.invariant.later);
-  unspent = λ e. c.loop-i.invariant.unspent (c.in_ok-size.ensures.cause.ok e);
+  kept = λ f. kept_along _ _ _ (c.loop-i.invariant.kept f) (c.count.ensures.leaves.kept f);
+  ground = g.met.X.Lists.same_along _ _ _ c.loop-i.invariant.ground c.count.ensures.leaves.ground;
+  later = omega (arith, c.count.ensures.leaves.cause.later, c.loop-i.invariant.later);
+  unspent = λ e. c.loop-i.invariant.unspent (c.in_ok-size.ensures.leaves.cause.ok e);
   cost = omega arith;
   within = shorter_within _ _ _ _ _ _ _ c.better-best.ensures (omega arith) c.loop-i.invariant.within;
   value = λ f s n. shorter_more (λ (j : ℕ). length (list_of (get_or c.args.words.now j []) (worded f))) _ _ _ _ _ _ c.better-best.ensures

@@ -23,7 +23,7 @@ pub returns-clause-value : goal.returns-clause-value
 returns-clause-value g c = λ f w s.
     let q = c.in_ok-best.ensures.value f s in
     let pos : 0 < c.in_ok-best.best.size = omega arith in
-    rw (← c.words-words.ensures.value) (c.walk_list.ensures.value f w ((c.find_shortest.ensures.kept f).0 s) (shortest_full c.words-words.result.now (worded f) _ _ q pos) q.0)
+    rw (← c.words-words.ensures.value) (c.walk_list.ensures.value f w ((c.find_shortest.ensures.leaves.kept f).0 s) (shortest_full c.words-words.result.now (worded f) _ _ q pos) q.0)
 
 pub returns-clause-cost : goal.returns-clause-cost
 returns-clause-cost g c = λ f s.

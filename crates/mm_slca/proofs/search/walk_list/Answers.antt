@@ -15,10 +15,10 @@ use Rattle.mm_slca.proofs.search.walk_list.Goals as goal
 
 pub loop-i-init : goal.loop-i-init
 loop-i-init g c = record {
-  kept = λ f. c.first.ensures.kept f;
-  ground = c.first.ensures.ground;
-  later = c.first.ensures.cause.later;
-  unspent = c.in_ok-at.ensures.cause.ok;
+  kept = λ f. c.first.ensures.leaves.kept f;
+  ground = c.first.ensures.leaves.ground;
+  later = c.first.ensures.leaves.cause.later;
+  unspent = c.in_ok-at.ensures.leaves.cause.ok;
   cost = omega arith;
   value = λ f w s n.
       let ls = lists_of c.args.words.now (worded f) in
@@ -29,8 +29,8 @@ loop-i-init g c = record {
       (subst (λ (o : Option Label). Stands ls ms 0 [] [] o) (sym h) (stands_first ls ms n));
 }
 
-pub returns-in_err-at-2-clause-cost : goal.returns-in_err-at-2-clause-cost
-returns-in_err-at-2-clause-cost g c =
+pub returns-in_err-pass-clause-cost : goal.returns-in_err-pass-clause-cost
+returns-in_err-pass-clause-cost g c =
     let t = steps_so_far (length c.args.words.now) (c.loop-i.i + 1) c.args.size (omega arith) (omega arith) in
     omega (arith, c.pass.ensures.cost, c.loop-i.invariant.cost)
 
