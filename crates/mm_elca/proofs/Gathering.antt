@@ -1,9 +1,8 @@
 -- The candidates of the nodes of a list are gathered one by one.
 use Rattle.std.proofs.Common.{inl, inr, ◌≡◌, ◌∙◌, ℕ, ◌+◌, ◌≤◌, length, take, drop, take_all, arith, ap, List, [], ◌∷◌, ◌++◌, Option, Some, None, refl, sym, subst}
 use Rattle.std.proofs.lemmas.List.{length-drop, take_more}
-use Rattle.mm_label.specs.Fronts.{Label, Front, Meets, Ascends}
+use Rattle.mm_label.specs.Fronts.{Label, Front, Meets, Ascends, or_empty}
 use Rattle.mm_lists.specs.Full.{MeetsAll, IsFullNode, IsCandidate}
-use Rattle.mm_lists.specs.Inside.Narrowing.{or_empty}
 use Rattle.mm_lists.specs.Advancing.{Advances}
 use Rattle.mm_label.specs.Facts.Fronts.{front_antisym}
 use Rattle.mm_label.specs.Facts.Lists.{met, meets, within_last, within_longer, within_cases}

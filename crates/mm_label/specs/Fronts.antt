@@ -50,6 +50,11 @@ but_last (c ∷ d ∷ ds) = c ∷ but_last (d ∷ ds)
 abbrev pub parent : Label → Label
 parent x = whole (but_last x)
 
+-- the label, or the empty one where there is none
+abbrev pub or_empty : Option Label → Label
+or_empty None = []
+or_empty (Some a) = a
+
 -- the empty label is no node's
 abbrev pub unless_empty : Label → Option Label
 unless_empty [] = None

@@ -1,8 +1,7 @@
 -- A walk along a keyword list goes on by one node.
 use Rattle.std.specs.Prelude.{ℕ, ◌+◌, ◌≡◌, List, Option, None, MatchOption, drop}
-use Rattle.mm_label.specs.Fronts.{Label}
+use Rattle.mm_label.specs.Fronts.{Label, or_empty}
 use Rattle.mm_lists.specs.Full.{IsCandidate}
-use Rattle.mm_lists.specs.Inside.Narrowing.{or_empty}
 use Rattle.mm_lists.specs.Lists.{head_of}
 
 -- the walk along ms stood at its i-th node and stands at the one after it, or past the end; c is the candidate of the node that it left

@@ -7,11 +7,11 @@ ghost use Rattle.mm_tree.specs.Numbering.{Labelled};
 ghost use Rattle.mm_tree.specs.Forests.{is_well_formed};
 ghost use Rattle.mm_tree.specs.Search.{list_of, lists_of, worded};
 ghost use Rattle.mm_lists.specs.Leaves.{Leaves};
-ghost use Rattle.mm_label.specs.Fronts.{Label, Within, Meets};
+ghost use Rattle.mm_label.specs.Fronts.{Label, Within, Meets, or_empty};
 ghost use Rattle.mm_lists.specs.Full.{MeetsAll, IsCandidate};
 ghost use Rattle.mm_lists.specs.Lists.{head_of};
 ghost use Rattle.mm_lists.specs.Advancing.{Advances};
-ghost use Rattle.mm_lists.specs.Inside.Narrowing.{deeper, narrowed, or_empty, ancestor_with};
+ghost use Rattle.mm_lists.specs.Inside.Narrowing.{deeper, narrowed, ancestor_with};
 
 use crate::lists::Lists;
 use mm_host::Fault;

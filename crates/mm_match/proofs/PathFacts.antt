@@ -6,9 +6,9 @@ use Rattle.std.specs.Cmp.Lexicographic.{slice_cmp}
 use Rattle.std.proofs.lemmas.Bool.{and_parts, and_from}
 use Rattle.mm_label.specs.Label.{whole}
 use Rattle.mm_match.specs.declared.mark.Mark.{Mark}
-use Rattle.mm_label.specs.Fronts.{Label, Front, is_front, Meets, same, parent, unless_empty}
+use Rattle.mm_label.specs.Fronts.{Label, Front, is_front, Meets, same, parent, unless_empty, or_empty}
 use Rattle.mm_match.specs.Marks.{labels, IsOnPath, at_or_below, mask_from, mask_at}
-use Rattle.mm_match.specs.Inside.Passing.{is_between, more, let_in, gathered, or_empty, is_above}
+use Rattle.mm_match.specs.Inside.Passing.{is_between, more, let_in, gathered, is_above}
 use Rattle.mm_label.specs.Facts.Fronts.{front_refl, front_trans, front_yes, is_front_of, front_no, same_is, same_of}
 use Rattle.mm_match.proofs.Siblings.{here}
 use Rattle.mm_match.proofs.Ties.{key_is, key_of}

@@ -1,10 +1,9 @@
 -- One walk over the candidates leaves the deepest.
 use Rattle.std.proofs.Common.{inl, inr, ◌≡◌, ℕ, List, [], ◌∷◌, ◌++◌, refl, ap, sym, subst, ◌∙◌, ◌+◌, ◌≤◌, ◌<◌, Bool, true, false, cond, Some, None, Option, length, take, drop, take_all, arith}
 use Rattle.std.proofs.lemmas.List.{length-drop, drop_all, take_more}
-use Rattle.mm_label.specs.Fronts.{Label, Front, is_front, Le, Apart, Within, Meets, Ascends}
+use Rattle.mm_label.specs.Fronts.{Label, Front, is_front, Le, Apart, Within, Meets, Ascends, or_empty}
 use Rattle.mm_lists.specs.Full.{MeetsAll, IsFull, IsFullNode, Deepest, IsCandidate}
 use Rattle.mm_slca.specs.Inside.Walk.{Walked, Stands, finished, taken_done, taken_held}
-use Rattle.mm_lists.specs.Inside.Narrowing.{or_empty}
 use Rattle.mm_lists.specs.Advancing.{Advances}
 use Rattle.mm_lists.specs.Lists.{head_of}
 use Rattle.mm_label.specs.Facts.Fronts.{front_trans, front_antisym, front_le, front_yes, front_no, le_trans, le_total, between_front, apart_trans}

@@ -6,7 +6,6 @@ ghost use Rattle.mm_tree.specs.Forests.{is_well_formed};
 ghost use Rattle.mm_tree.specs.Search.{list_of, lists_of, slca, worded};
 ghost use Rattle.mm_lists.specs.Leaves.{Leaves};
 ghost use Rattle.mm_lists.specs.Full.{MeetsAll};
-ghost use Rattle.mm_lists.specs.Inside.Narrowing.{or_empty};
 ghost use Rattle.mm_slca.specs.Bound.{cost_of};
 ghost use Rattle.mm_slca.specs.Inside.Walk.{Stands};
 
@@ -19,6 +18,7 @@ use mm_steps::Steps;
 use mm_words::{Query, Word};
 use std::alloc::Global;
 use std::sync::ledger::Ledger;
+ghost use Rattle.mm_label.specs.Fronts.{or_empty};
 
 /// Passes the node at which the walk stands, and goes to the next of its list.
 fn pass<X: Lists, L: Ledger>(

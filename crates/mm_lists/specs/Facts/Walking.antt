@@ -1,11 +1,10 @@
 -- A walk along a keyword list, from the first to the last.
 use Rattle.std.proofs.Common.{inl, inr, ◌≡◌, ℕ, ◌+◌, ◌≤◌, ◌<◌, List, [], ◌∷◌, ◌++◌, refl, ap, sym, subst, ◌∙◌, Some, None, Option, length, drop, arith, get_or}
 use Rattle.std.proofs.lemmas.List.{length-drop, drop_all, drop_more}
-use Rattle.mm_label.specs.Fronts.{Label, Apart, Within, Ascends}
+use Rattle.mm_label.specs.Fronts.{Label, Apart, Within, Ascends, or_empty}
 use Rattle.mm_label.specs.Facts.Fronts.{le_antisym}
 use Rattle.mm_label.specs.Facts.Lists.{within_cases, within_drop, ascends_tail, within_at}
 use Rattle.mm_lists.specs.Full.{Rising, IsCandidate}
-use Rattle.mm_lists.specs.Inside.Narrowing.{or_empty}
 use Rattle.mm_lists.specs.Advancing.{Advances}
 use Rattle.mm_lists.specs.Lists.{head_of}
 use Rattle.mm_lists.specs.Facts.Nearest.{NextMatch}

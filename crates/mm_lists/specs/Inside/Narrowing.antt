@@ -14,7 +14,3 @@ deeper a b = cond (is_front a b) b a
 -- the deeper of the lowest common ancestors with the left and with the right match
 abbrev pub narrowed : Label → Option Label → Option Label → Label
 narrowed x left right = deeper (ancestor_with x left) (ancestor_with x right)
-
-abbrev pub or_empty : Option Label → Label
-or_empty None = []
-or_empty (Some a) = a

@@ -65,10 +65,6 @@ abbrev pub gathered : Label → Label → Option ℕ → List Mark → Option �
 gathered root x mask [] = mask
 gathered root x mask (m ∷ ms) = gathered root x (let_in root x m mask) ms
 
-abbrev pub or_empty : Option Label → Label
-or_empty None = []
-or_empty (Some a) = a
-
 -- a label is a front of the other one, where there is one
 abbrev pub is_above : Label → Option Label → Bool
 is_above x None = false

@@ -2,9 +2,8 @@ use Rattle.std.proofs.Common.{arith, sym, subst, List, [], inl, inr, eq-eqb, ap,
 use Rattle.std.proofs.lemmas.Bool.{cases_lt, eqb-true}
 use Rattle.std.proofs.lemmas.List.{get_or_default}
 use Rattle.mm_tree.specs.Search.{list_of, lists_of, worded}
-use Rattle.mm_label.specs.Fronts.{Label, Meets, Within}
+use Rattle.mm_label.specs.Fronts.{Label, Meets, Within, or_empty}
 use Rattle.mm_lists.specs.Full.{Word, IsCandidate}
-use Rattle.mm_lists.specs.Inside.Narrowing.{or_empty}
 use Rattle.mm_lists.specs.Facts.Formed.{formed}
 use Rattle.mm_lists.specs.Facts.Candidates.{candidate_first}
 use Rattle.mm_lists.specs.Facts.Listed.{listed_whole, lists_more, full_at}

@@ -4,9 +4,8 @@ use Rattle.mm_tree.specs.Trees.{Trees}
 use Rattle.mm_tree.specs.Numbering.{Labelled}
 use Rattle.mm_tree.specs.Forests.{is_well_formed}
 use Rattle.mm_tree.specs.Search.{list_of, lists_of, worded}
-use Rattle.mm_label.specs.Fronts.{Within}
+use Rattle.mm_label.specs.Fronts.{Within, or_empty}
 use Rattle.mm_lists.specs.Full.{MeetsAll, IsCandidate}
-use Rattle.mm_lists.specs.Inside.Narrowing.{or_empty}
 use Rattle.mm_lists.proofs.matches.candidate.Given as goal
 
 abbrev pub invariant-loop-i : goal.invariant-loop-i

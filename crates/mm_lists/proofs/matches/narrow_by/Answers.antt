@@ -1,8 +1,8 @@
 use Rattle.std.proofs.Common.{sym, subst, ◌∷◌, [], ◌++◌}
 use Rattle.mm_tree.specs.Search.{list_of, worded}
-use Rattle.mm_label.specs.Fronts.{Label}
+use Rattle.mm_label.specs.Fronts.{Label, or_empty}
 use Rattle.mm_lists.specs.Full.{IsCandidate}
-use Rattle.mm_lists.specs.Inside.Narrowing.{narrowed, or_empty}
+use Rattle.mm_lists.specs.Inside.Narrowing.{narrowed}
 use Rattle.mm_lists.specs.Facts.Nearest.{left_match, right_match}
 use Rattle.mm_lists.specs.Facts.Candidates.{candidate_more}
 use Rattle.mm_lists.proofs.matches.narrow_by.Goals as goal

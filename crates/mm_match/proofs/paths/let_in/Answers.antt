@@ -1,7 +1,7 @@
 use Rattle.std.proofs.Common.{◌∙◌, ◌<◌, ap, sym, subst, length, Option, Some}
-use Rattle.mm_label.specs.Fronts.{Label, parent, unless_empty}
+use Rattle.mm_label.specs.Fronts.{Label, parent, unless_empty, or_empty}
 use Rattle.mm_match.specs.Marks.{at_or_below}
-use Rattle.mm_match.specs.Inside.Passing.{mask_in, or_empty}
+use Rattle.mm_match.specs.Inside.Passing.{mask_in}
 use Rattle.mm_label.specs.Facts.Fronts.{front_refl, front_trans}
 use Rattle.mm_label.specs.Facts.Parents.{label_some, label_whole, unless_empty_some, parent_front, parent_shorter, parent_whole}
 use Rattle.mm_match.proofs.PathFacts.{Stands, so_far, starts, ends, goes_on, stands_at, shorter_at, not_empty}

@@ -1,6 +1,6 @@
 use Rattle.std.proofs.Common.{◌≡◌, length}
-use Rattle.mm_label.specs.Fronts.{Label}
-use Rattle.mm_match.specs.Inside.Passing.{mask_in, or_empty}
+use Rattle.mm_label.specs.Fronts.{Label, or_empty}
+use Rattle.mm_match.specs.Inside.Passing.{mask_in}
 use Rattle.mm_match.proofs.PathFacts.{Stands, so_far}
 use Rattle.mm_match.proofs.paths.let_in.Given as goal
 

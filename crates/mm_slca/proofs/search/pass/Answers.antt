@@ -1,7 +1,6 @@
 use Rattle.std.proofs.Common.{ap, ◌∙◌, Option, get_or, []}
 use Rattle.mm_tree.specs.Search.{list_of, lists_of, worded}
-use Rattle.mm_label.specs.Fronts.{Label}
-use Rattle.mm_lists.specs.Inside.Narrowing.{or_empty}
+use Rattle.mm_label.specs.Fronts.{Label, or_empty}
 use Rattle.mm_lists.specs.Facts.Formed.{formed}
 use Rattle.mm_lists.specs.Facts.Listed.{list_ascends}
 use Rattle.mm_slca.specs.Inside.Walk.{taken_done, taken_held}

@@ -1,9 +1,8 @@
 use Rattle.std.proofs.Common.{arith, sym, subst, ap, ◌∙◌, ◌≡◌, ◌+◌, ◌<◌, ℕ, [], List, Option, get_or, length}
 use Rattle.std.proofs.lemmas.List.{get_or_default}
 use Rattle.mm_tree.specs.Search.{list_of, lists_of, worded}
-use Rattle.mm_label.specs.Fronts.{Label}
+use Rattle.mm_label.specs.Fronts.{Label, or_empty}
 use Rattle.mm_lists.specs.Full.{Word, Deepest}
-use Rattle.mm_lists.specs.Inside.Narrowing.{or_empty}
 use Rattle.mm_lists.specs.Lists.{head_of}
 use Rattle.mm_lists.specs.Facts.Formed.{formed}
 use Rattle.mm_lists.specs.Facts.Listed.{full_at}

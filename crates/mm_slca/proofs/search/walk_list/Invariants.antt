@@ -5,9 +5,9 @@ use Rattle.mm_tree.specs.Numbering.{Labelled}
 use Rattle.mm_tree.specs.Forests.{is_well_formed}
 use Rattle.mm_tree.specs.Search.{list_of, lists_of, worded}
 use Rattle.mm_lists.specs.Full.{MeetsAll}
-use Rattle.mm_lists.specs.Inside.Narrowing.{or_empty}
 use Rattle.mm_slca.specs.Inside.Walk.{Stands}
 use Rattle.mm_slca.proofs.search.walk_list.Given as goal
+use Rattle.mm_label.specs.Fronts.{or_empty}
 
 abbrev pub invariant-loop-i : goal.invariant-loop-i
 invariant-loop-i g l = record {
