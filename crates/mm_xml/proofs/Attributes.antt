@@ -6,6 +6,7 @@ use Rattle.std.proofs.lemmas.List.{length-append}
 use Rattle.mm_tree.specs.Characters.{is_space, is_name_start, is_name_char, is_name, is_short_name}
 use Rattle.mm_xml.specs.Letters.{is_gap}
 use Rattle.mm_xml.specs.Syntax.{Part, is_quote, spelled_part, is_within, Written, is_written, spelled_written}
+use Rattle.mm_xml.specs.Facts.Characters.{start_is, short_chars}
 use Rattle.mm_xml.specs.Inside.Lexing.{◌>>=◌, Found, span, after, parts_at, value_at, written_at, starts_name, attributes_at}
 use Rattle.mm_xml.proofs.Spans.{taken, chosen, some, no, some_is, bind_some, span_whole, span_all, span_again, after_takes, Stops}
 use Rattle.mm_xml.proofs.Parts.{parts_take, parts_again, parts_len}
@@ -86,18 +87,6 @@ space_no_name d h =
 
 pub name_char_no_space : (d : ℕ) → is_name_char d ≡ true → is_space d ≡ false
 name_char_no_space d h = elim (is_space d) as (λ b. is_space d ≡ b → b ≡ false) [ true ↦ λ e. let z = space_no_name d e in absurd cc | false ↦ λ e. refl ] refl
-
-pub start_is : (c : ℕ) → is_name_start c ≡ true → is_name_char c ≡ true
-start_is c h = rw h refl
-
-pub name_chars : (name : List ℕ) → is_name name ≡ true → list_all is_name_char name ≡ true
-name_chars [] h = absurd cc
-name_chars (c ∷ cs) h =
-    let w = and_parts (is_name_start c) (list_all is_name_char cs) h in
-    and_from (is_name_char c) (list_all is_name_char cs) (start_is c w.0) w.1
-
-pub short_chars : (name : List ℕ) → is_short_name name ≡ true → list_all is_name_char name ≡ true
-short_chars name h = name_chars name (and_parts (is_name name) _ h).0
 
 pub quote_no_space : (q : ℕ) → is_quote q ≡ true → is_space q ≡ false
 quote_no_space q h =

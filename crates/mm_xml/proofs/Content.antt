@@ -8,7 +8,8 @@ use Rattle.mm_xml.specs.Syntax.{Part, Literal, Reference, is_literal, spelled_wr
 use Rattle.mm_xml.specs.Inside.Lexing.{◌>>=◌, Found, span, after, part_at, start_at, close_at, comment_at, section_at, instruction_at, two_dashes, section_start, doctype_start, doctype_at, marked_at, markup_at, token_at}
 use Rattle.mm_xml.proofs.Spans.{taken, chosen, some, no, some_is, bind_some, span_whole, span_all, span_again, after_takes, starts_takes}
 use Rattle.mm_xml.proofs.Parts.{part_takes, part_again}
-use Rattle.mm_xml.proofs.Attributes.{short_chars, not_space_stops, space_no_name}
+use Rattle.mm_xml.specs.Facts.Characters.{short_chars}
+use Rattle.mm_xml.proofs.Attributes.{not_space_stops, space_no_name}
 use Rattle.mm_xml.proofs.DoctypeFacts.{doctype_takes, doctype_again}
 use Rattle.mm_xml.proofs.Tags.{Takes, start_takes, start_again, comment_takes, comment_again, section_takes, section_again, instruction_takes, instruction_again}
 

@@ -11,7 +11,8 @@ use Rattle.mm_xml.specs.Inside.Prefix.{stripped}
 use Rattle.mm_xml.specs.Inside.Telling.{Sign, Doctyped, tell, rest_of, both_rest}
 use Rattle.mm_xml.specs.Inside.Lexemes.{Rests}
 use Rattle.mm_xml.proofs.Spans.{taken, chosen, some, no, some_is, bind_some, Stops, span_whole, span_all, span_again, after_takes, starts_takes}
-use Rattle.mm_xml.proofs.Attributes.{quote_no_space, space_no_name, not_space_stops, name_chars, name_char_no_space, start_is, gap_spaces}
+use Rattle.mm_xml.specs.Facts.Characters.{start_is, name_chars}
+use Rattle.mm_xml.proofs.Attributes.{quote_no_space, space_no_name, not_space_stops, name_char_no_space, gap_spaces}
 use Rattle.mm_xml.proofs.Tags.{Takes}
 
 -- ---- quoted text

@@ -16,9 +16,6 @@ pub record Behind (cs rest : List ℕ) : Type 0 where
   pub whole : cs ≡ front ++ rest
   pub each : list_all is_ordinary front ≡ true
 
-pub at_first : (cs : List ℕ) → Behind cs cs
-at_first cs = record { front = []; whole = refl; each = refl }
-
 pub one_more : (cs here rest : List ℕ) (c : ℕ) (b : Bool) → Behind cs here → here ≡ c ∷ rest → b ≡ is_ordinary c → b ≡ true → Behind cs rest
 one_more cs here rest c b behind e is h = record {
   front = behind.front ++ c ∷ [];

@@ -9,7 +9,8 @@ use Rattle.mm_xml.specs.Letters.{is_gap, is_free}
 use Rattle.mm_xml.specs.Syntax.{Written, is_written, spelled_written, differ, attribute_of, ending, Token, Section, Comment, Instruction, Start, is_token, spelled, is_rest, is_reserved}
 use Rattle.mm_xml.specs.Inside.Lexing.{◌>>=◌, Found, span, up_to, after, ending_at, starts_name, attributes_at, start_end_at, start_at, comment_at, section_at, instruction_at}
 use Rattle.mm_xml.proofs.Spans.{taken, chosen, some, no, some_is, bind_some, span_whole, span_all, span_again, after_takes, Stops, up_to_takes, up_to_again}
-use Rattle.mm_xml.proofs.Attributes.{attributes_take, attributes_again, attributes_len, short_chars, space_no_name, name_chars, not_space_stops}
+use Rattle.mm_xml.specs.Facts.Characters.{name_chars, short_chars}
+use Rattle.mm_xml.proofs.Attributes.{attributes_take, attributes_again, attributes_len, space_no_name, not_space_stops}
 
 -- what is read is a token that is spelled so
 pub record Takes (cs : List ℕ) (x : Token × List ℕ) : Type 0 where

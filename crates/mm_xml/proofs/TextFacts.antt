@@ -1,5 +1,5 @@
 -- A text, and the characters that its bytes stand for.
-use Rattle.std.proofs.Common.{◌≡◌, ◌≢◌, refl, sym, ap, subst, ◌∙◌, ℕ, zero, suc, ◌+◌, ◌-◌, ◌<◌, ◌≤◌, Bool, true, false, cond, not, eqb, eqb-true, leb, ◌&&◌, List, [], ◌∷◌, ◌++◌, length, take, drop, get_or, Option, Some, None, append_assoc, arith}
+use Rattle.std.proofs.Common.{◌≡◌, ◌≢◌, refl, sym, ap, subst, ◌∙◌, ℕ, zero, suc, ◌+◌, ◌-◌, ◌<◌, ◌≤◌, Bool, true, false, cond, not, eqb, eqb-true, leb, ◌&&◌, List, [], ◌∷◌, ◌++◌, length, take, drop, Option, Some, None, append_assoc, arith}
 use Rattle.std.specs.Prelude.{encode_utf8, Result, Ok, Err, IfOk, OnOk, is_ok}
 use Rattle.std.specs.Char.{IsScalar}
 use Rattle.std.specs.Str.{chars, IsUtf8, IsCharBoundary, bytes_eq, encode_utf8_all, NonePass, NoCharPasses}
@@ -11,10 +11,11 @@ use Rattle.std.proofs.lemmas.Bool.Decides.{nat_tests}
 use Rattle.std.proofs.lemmas.List.{append-nil, take-append-drop, drop_at, take_at, length-append}
 use Rattle.std.proofs.Math.Seq.{drop-append-add}
 use Rattle.std.proofs.lemmas.Slice.Eq.{bytes_eq-Decides}
-use Rattle.std.proofs.lemmas.Str.{chars-nil, chars-append, chars-IsAscii, chars_past_char, chars_from_encodes, encodes-chars, encodes-append, encodes-IsAscii, IsUtf8-encode, IsUtf8-from_ascii, IsUtf8-append, IsUtf8-take, IsUtf8-drop, IsCharBoundary-at_seam, length-encode, len_utf8_bounds, length-le-encodes}
-use Rattle.std.proofs.lemmas.Bool.{and_parts, and_from}
+use Rattle.std.proofs.lemmas.Str.{chars-nil, chars-append, chars-IsAscii, chars_past_char, chars_from_encodes, encodes-chars, encodes-append, IsUtf8-encode, IsUtf8-from_ascii, IsUtf8-append, IsUtf8-take, IsUtf8-drop, IsCharBoundary-at_seam, length-encode, len_utf8_bounds, length-le-encodes}
+use Rattle.std.proofs.lemmas.Bool.{and_from}
 use Rattle.mm_tree.specs.Characters.{is_name, is_short_name}
 use Rattle.mm_xml.specs.Letters.{starts, is_free, is_ascii}
+use Rattle.mm_xml.specs.Facts.Characters.{each_below, spelled_ascii, spelled_front}
 use Rattle.mm_xml.specs.Inside.Lexing.{up_to}
 use Rattle.mm_xml.specs.Grammar.{normal}
 use Rattle.mm_xml.specs.Inside.Lexemes.{Rests, Splits}
@@ -22,13 +23,6 @@ use Rattle.mm_xml.specs.Inside.Prefix.{stripped}
 use Rattle.mm_xml.proofs.Spans.{taken, some_is, starts_takes, up_to_takes, up_to_again}
 
 -- ---- no characters
-
-no_bytes : (bs : List ℕ) → length bs ≡ 0 → bs ≡ []
-no_bytes [] e = refl
-no_bytes (b ∷ bs) e = absurd (omega (arith, e))
-
-pub none_left : (bs : List ℕ) → length bs ≡ 0 → chars bs ≡ []
-none_left bs e = ap chars (no_bytes bs e) ∙ chars-nil
 
 pub counts_none : (bs : List ℕ) → IsUtf8 bs → eqb (length bs) 0 ≡ eqb (length (chars bs)) 0
 counts_none [] utf8 = ap (λ (cs : List ℕ). eqb (length cs) 0) (sym chars-nil)
@@ -43,23 +37,8 @@ few bs utf8 = omega (arith, length-le-encodes (chars bs), ap length (encodes-cha
 
 -- ---- ASCII
 
-below : (b : ℕ) → (leb (suc b) 128) ≡ true → b < 128
-below b h = grind (arith, nat_tests)
-
-each_below : (bs : List ℕ) → is_ascii bs ≡ true → (i : ℕ) → get_or bs i 0 < 128
-each_below [] h i = omega arith
-each_below (b ∷ bs) h zero = below b (and_parts _ _ h).0
-each_below (b ∷ bs) h (suc i) = each_below bs (and_parts _ _ h).1 i
-
-pub spelled_ascii : (p : List ℕ) → is_ascii p ≡ true → encode_utf8_all p ≡ p
-spelled_ascii p h = encodes-IsAscii p (each_below p h)
-
 pub ascii_front : (p rest : List ℕ) → is_ascii p ≡ true → chars (p ++ rest) ≡ p ++ chars rest
 ascii_front p rest h = chars-append p rest (IsUtf8-from_ascii p (each_below p h)) ∙ ap (λ (r : List ℕ). r ++ chars rest) (chars-IsAscii p (each_below p h))
-
--- the bytes of characters behind which the pattern stands
-pub spelled_front : (p xs : List ℕ) → is_ascii p ≡ true → encode_utf8_all (p ++ xs) ≡ p ++ encode_utf8_all xs
-spelled_front p xs h = encodes-append p xs ∙ ap (λ (r : List ℕ). r ++ encode_utf8_all xs) (spelled_ascii p h)
 
 -- ---- a text of ASCII
 

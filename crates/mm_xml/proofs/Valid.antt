@@ -3,13 +3,12 @@ use Rattle.std.proofs.Common.{◌≡◌, ℕ, suc, ◌+◌, ◌*◌, ◌/◌, �
 use Rattle.std.specs.Prelude.{IsTrue, encode_utf8, map, sum_by}
 use Rattle.std.specs.List.{flat_map, list_all}
 use Rattle.std.specs.Str.{is_utf8, chars, encode_utf8_all, bytes_eq}
-use Rattle.std.proofs.Math.Utf8.{scalar, scalars}
 use Rattle.std.proofs.lemmas.Bool.{leb-true, and_parts, and_from, or_cases}
 use Rattle.std.proofs.lemmas.Bool.Decides.{nat_tests}
 use Rattle.std.proofs.lemmas.List.{length-append}
 use Rattle.std.proofs.lemmas.List.Sums.{sum_by-cons}
 use Rattle.std.proofs.lemmas.List.Folds.{list_all-append}
-use Rattle.std.proofs.lemmas.Str.{is_utf8-from_IsUtf8, IsUtf8-from_is_utf8, chars-encodes, length-encode, len_utf8_bounds, length-le-encodes}
+use Rattle.std.proofs.lemmas.Str.{encodes-append, encodes-chars, IsUtf8-from_is_utf8, length-encode, len_utf8_bounds, length-le-encodes}
 use Rattle.mm_tree.specs.declared.Kind.{Kind}
 use Rattle.mm_tree.specs.declared.Kind.TheVariants.{Element, Words}
 use Rattle.mm_tree.specs.declared.Attribute.{Attribute}
@@ -21,7 +20,7 @@ use Rattle.mm_xml.specs.Syntax.{Part, Literal, Reference, is_part, is_literal, i
 use Rattle.mm_xml.specs.Grammar.{Bracket, Begin, End, end_name, text_brackets, start_brackets, brackets, bracketing, outside, is_textual, spelled_first, is_document, has_form, Spells, normal, without_mark}
 use Rattle.mm_xml.proofs.Spans.{chosen}
 use Rattle.mm_xml.proofs.Attributes.{written_facts, attributes_len}
-use Rattle.mm_xml.proofs.EncodingFacts.{encoded_append}
+use Rattle.mm_xml.specs.Facts.Characters.{same_chars, utf8_chars, encoded_chars}
 
 lt_test : (a b : ℕ) → a < b → ltb a b ≡ true
 lt_test a b h = grind (arith, nat_tests)
@@ -31,23 +30,6 @@ le_test a b h = grind (arith, nat_tests)
 
 -- ---- characters
 
-scalar_of : (c : ℕ) → is_char c ≡ true → scalar c ≡ true
-scalar_of c h = grind (arith, nat_tests)
-
-scalars_of : (cs : List ℕ) → list_all is_char cs ≡ true → scalars cs ≡ true
-scalars_of [] h = refl
-scalars_of (c ∷ cs) h = let w = and_parts (is_char c) (list_all is_char cs) h in and_from (scalar c) (scalars cs) (scalar_of c w.0) (scalars_of cs w.1)
-
--- characters of a document, as bytes
-pub same_chars : (cs : List ℕ) → list_all is_char cs ≡ true → chars (encode_utf8_all cs) ≡ cs
-same_chars cs h = chars-encodes cs (scalars_of cs h)
-
-utf8_chars : (cs : List ℕ) → list_all is_char cs ≡ true → is_utf8 (encode_utf8_all cs) ≡ true
-utf8_chars cs h = is_utf8-from_IsUtf8 (encode_utf8_all cs) (cs, (scalars_of cs h, refl))
-
-pub encoded_chars : (cs : List ℕ) → list_all is_char cs ≡ true → are_chars (encode_utf8_all cs) ≡ true
-encoded_chars cs h = and_from _ _ (utf8_chars cs h) (ap (λ (x : List ℕ). list_all is_char x) (same_chars cs h) ∙ h)
-
 encoded_name : (cs : List ℕ) → list_all is_char cs ≡ true → is_short_name cs ≡ true → is_node_name (encode_utf8_all cs) ≡ true
 encoded_name cs h n = and_from _ _ (utf8_chars cs h) (ap (λ (x : List ℕ). is_short_name x) (same_chars cs h) ∙ n)
 
@@ -56,7 +38,7 @@ abbrev size : List ℕ → ℕ
 size cs = length (encode_utf8_all cs)
 
 size_append : (xs ys : List ℕ) → size (xs ++ ys) ≡ size xs + size ys
-size_append xs ys = ap length (encoded_append xs ys) ∙ length-append (encode_utf8_all xs) (encode_utf8_all ys)
+size_append xs ys = ap length (encodes-append xs ys) ∙ length-append (encode_utf8_all xs) (encode_utf8_all ys)
 
 size_first : (c : ℕ) (cs : List ℕ) → size (c ∷ cs) ≡ length (encode_utf8 c) + size cs
 size_first c cs = length-append (encode_utf8 c) (encode_utf8_all cs)
@@ -497,7 +479,7 @@ unmarked_size [] = omega arith
 unmarked_size (c ∷ cs) = elim (eqb c 65279) as (λ b. size (cond b cs (c ∷ cs)) ≤ size (c ∷ cs)) [ true ↦ omega (arith, size_more c cs) | false ↦ omega arith ]
 
 encoded_back : (bytes : List ℕ) → is_utf8 bytes ≡ true → size (chars bytes) ≡ length bytes
-encoded_back bytes h = let u = IsUtf8-from_is_utf8 bytes h in ap length (ap encode_utf8_all (ap chars (sym u.1.1) ∙ chars-encodes u.0 u.1.0) ∙ u.1.1)
+encoded_back bytes h = ap length (encodes-chars bytes (IsUtf8-from_is_utf8 bytes h))
 
 few_in : (t : Tree Kind) (ts : List Token) → list_all is_token ts ≡ true → list_all is_char (rest_of ts) ≡ true → (outside true 0 ts || list_all is_textual ts) ≡ true → size (rest_of ts) < 2 ^ 32 → weight (brackets [] ts) < 2 ^ 31
 few_in t ts each all form short = elim (or_cases (outside true 0 ts) (list_all is_textual ts) form) [

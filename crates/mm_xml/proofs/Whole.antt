@@ -10,7 +10,8 @@ use Rattle.mm_tree.specs.declared.Kind.TheVariants.{Element, Words}
 use Rattle.mm_tree.specs.Characters.{is_space}
 use Rattle.mm_tree.specs.Trees.{none, Tree, one}
 use Rattle.mm_xml.specs.Syntax.{Declaration, is_declaration, Literal, Reference, attribute_of, Token, Data, Section, Comment, Instruction, Start, Close, Doctype, is_token, spelled}
-use Rattle.mm_xml.specs.Grammar.{Bracket, Begin, End, end_name, text_brackets, start_brackets, brackets, unbroken, outside, is_textual, bracketing, is_document, has_form, spelled_first, SpelledBy, Spells, characters}
+use Rattle.mm_xml.specs.Grammar.{Bracket, Begin, End, end_name, text_brackets, start_brackets, brackets, unbroken, outside, is_textual, bracketing, is_document, has_form, spelled_first, SpelledBy, SpellsBy, Spells, characters}
+use Rattle.mm_xml.specs.Facts.Tokens.{first}
 use Rattle.mm_xml.specs.Inside.Lexing.{◌>>=◌, Found, token_at}
 use Rattle.mm_xml.specs.Inside.Telling.{Sign, told}
 use Rattle.mm_xml.specs.Inside.Machine.{State, Before, Inside, After, with_child, place, place_all, finished, build, step, cleared, leaf_at, text_step, open_step, sign_step, Order, sign_may, sign_next, may, next, in_turn, accept, read_from, document, text, read_as, or_else, read_plain, read_behind, read_all}
@@ -111,17 +112,6 @@ read_sound (suc n) s run o (c ∷ cs) t e =
 
 -- ---- what is spelled so is read
 
--- the first character of a token
-pub first : (t : Token) → (b : ℕ) × (cs : List ℕ) × (spelled t ≡ b ∷ cs)
-first (Data (Literal c)) = (c, [], refl)
-first (Data (Reference body)) = (38, _, refl)
-first (Section cs) = (60, _, refl)
-first (Comment cs) = (60, _, refl)
-first (Instruction name cs) = (60, _, refl)
-first (Start empty name attributes gap) = (60, _, refl)
-first (Close name gap) = (60, _, refl)
-first (Doctype gap name ext after) = (60, _, refl)
-
 then_read : (b : Bool) (q : Option (State × List ℕ)) (n : ℕ) (o : Order) (rest : List ℕ) (ts : List Token) → ((s : State) (run : List ℕ) → read_from n s run o rest ≡ accept s run o ts)
     → cond b (q >>= λ y. read_from n y.0 y.1 o rest) no ≡ cond b (q >>= λ y. accept y.0 y.1 o ts) no
 then_read false q n o rest ts more = refl
@@ -175,7 +165,7 @@ makes_read o cs t tokens m =
 -- ---- the two forms
 
 -- characters are spelled by no others
-pub same_tokens : (ts us : List Token) → list_all is_token ts ≡ true → list_all is_token us ≡ true → flat_map spelled ts ≡ flat_map spelled us → ts ≡ us
+same_tokens : (ts us : List Token) → list_all is_token ts ≡ true → list_all is_token us ≡ true → flat_map spelled ts ≡ flat_map spelled us → ts ≡ us
 same_tokens [] [] a b e = refl
 same_tokens [] (u ∷ us) a b e = let f = first u in absurd (omega (arith, ap length e, length-append (spelled u) (flat_map spelled us), ap length f.2))
 same_tokens (t ∷ ts) [] a b e = let f = first t in absurd (omega (arith, ap length e, length-append (spelled t) (flat_map spelled ts), ap length f.2))
@@ -234,7 +224,7 @@ behind None cs = cs
 behind (Some rest) cs = rest
 
 -- the tokens spell what stands behind the declaration
-pub rest_spelled : (cs : List ℕ) (t : Tree Kind) (first : Option Declaration) (tokens : List Token) → SpelledBy cs t first tokens → behind (after_declaration cs) cs ≡ flat_map spelled tokens
+rest_spelled : (cs : List ℕ) (t : Tree Kind) (first : Option Declaration) (tokens : List Token) → SpelledBy cs t first tokens → behind (after_declaration cs) cs ≡ flat_map spelled tokens
 rest_spelled cs t None tokens s = ap (λ o. behind o cs) (ap after_declaration s.spelled_so ∙ undeclared tokens s.each) ∙ s.spelled_so
 rest_spelled cs t (Some d) tokens s =
     let f = elim (or_cases (is_document (Some d) tokens) false s.form) as (λ x. is_declaration d ≡ true) [ inl h ↦ (and_parts (is_declaration d) (outside true 0 tokens) h).0 | inr h ↦ absurd cc ] in
@@ -267,6 +257,10 @@ spelled_read cs t (Some d) tokens s =
           ∙ makes_read document (flat_map spelled tokens) t tokens (record { each = s.each; spelled_so = refl; turn = turns tokens 0 true 0 ∙ and_from _ _ s.whole w.1; tree_is = s.tree_is })
       | inr h ↦ absurd cc
     ]
+
+-- bytes spell what they spell by one list of tokens
+pub one_spelling : (bytes : List ℕ) (t u : Tree Kind) (first other : Option Declaration) (tokens others : List Token) → SpellsBy bytes t first tokens → SpellsBy bytes u other others → tokens ≡ others
+one_spelling bytes t u first other tokens others a b = same_tokens tokens others a.by.each b.by.each (sym (rest_spelled (characters bytes) t first tokens a.by) ∙ rest_spelled (characters bytes) u other others b.by)
 
 pub one_tree : (bytes : List ℕ) (t u : Tree Kind) → Spells bytes t → Spells bytes u → t ≡ u
 one_tree bytes t u a b = one_spelled (characters bytes) t u a.0 b.0 a.1 b.1 a.2.by b.2.by

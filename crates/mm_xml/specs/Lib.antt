@@ -6,3 +6,4 @@ pub mod Parts
 pub mod Writing
 pub mod Refusals
 pub mod Inside
+pub mod Facts

@@ -1,5 +1,0 @@
-use Rattle.mm_xml.proofs.Prologs as prologs
-use Rattle.mm_xml.proofs.laws.doctype.Goals as goal
-
-pub returns : goal.returns
-returns c = λ before behind gap name after external p is plain q. prologs.doctype before behind gap name after external p is plain q

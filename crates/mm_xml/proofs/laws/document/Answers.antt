@@ -1,5 +1,0 @@
-use Rattle.mm_xml.proofs.Forms as forms
-use Rattle.mm_xml.proofs.laws.document.Goals as goal
-
-pub returns : goal.returns
-returns c = λ first before bytes behind t is plain p s m. forms.document first before bytes behind t is plain p s m

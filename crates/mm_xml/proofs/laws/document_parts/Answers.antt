@@ -1,5 +1,0 @@
-use Rattle.mm_xml.proofs.DocumentParts as documents
-use Rattle.mm_xml.proofs.laws.document_parts.Goals as goal
-
-pub returns : goal.returns
-returns c = λ bytes t s. documents.document_parts bytes t s

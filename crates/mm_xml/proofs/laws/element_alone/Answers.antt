@@ -1,5 +1,0 @@
-use Rattle.mm_xml.proofs.Prologs as prologs
-use Rattle.mm_xml.proofs.laws.element_alone.Goals as goal
-
-pub returns : goal.returns
-returns c = λ bytes t s. prologs.element_alone bytes t s

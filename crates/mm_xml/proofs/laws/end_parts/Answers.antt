@@ -1,5 +1,0 @@
-use Rattle.mm_xml.proofs.TokenParts as tokens
-use Rattle.mm_xml.proofs.laws.end_parts.Goals as goal
-
-pub returns : goal.returns
-returns c = λ bytes name gap s. tokens.end_parts bytes name gap s

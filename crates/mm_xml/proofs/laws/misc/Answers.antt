@@ -1,5 +1,0 @@
-use Rattle.mm_xml.proofs.Prologs as prologs
-use Rattle.mm_xml.proofs.laws.misc.Goals as goal
-
-pub returns : goal.returns
-returns c = λ t bytes m is plain s. prologs.misc t bytes m is plain s

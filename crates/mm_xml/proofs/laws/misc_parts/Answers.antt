@@ -1,5 +1,0 @@
-use Rattle.mm_xml.proofs.DocumentParts as documents
-use Rattle.mm_xml.proofs.laws.misc_parts.Goals as goal
-
-pub returns : goal.returns
-returns c = λ bytes s. documents.misc_parts bytes s

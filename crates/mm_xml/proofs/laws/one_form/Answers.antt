@@ -1,5 +1,0 @@
-use Rattle.mm_xml.proofs.Forms as forms
-use Rattle.mm_xml.proofs.laws.one_form.Goals as goal
-
-pub returns : goal.returns
-returns c = λ bytes t u a b. forms.one_form bytes t u a b

@@ -1,5 +1,0 @@
-use Rattle.mm_xml.proofs.Elements as elements
-use Rattle.mm_xml.proofs.laws.text_in_content.Goals as goal
-
-pub returns : goal.returns
-returns c = λ bytes text content children s h more. elements.text_in_content bytes text content children s h more

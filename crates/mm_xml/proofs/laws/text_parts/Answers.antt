@@ -1,5 +1,0 @@
-use Rattle.mm_xml.proofs.RunParts as runs
-use Rattle.mm_xml.proofs.laws.text_parts.Goals as goal
-
-pub returns : goal.returns
-returns c = λ bytes text s. runs.run_parts bytes text s

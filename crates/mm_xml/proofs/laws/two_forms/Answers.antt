@@ -1,5 +1,0 @@
-use Rattle.mm_xml.proofs.Forms as forms
-use Rattle.mm_xml.proofs.laws.two_forms.Goals as goal
-
-pub returns : goal.returns
-returns c = λ bytes t s. forms.two_forms bytes t s

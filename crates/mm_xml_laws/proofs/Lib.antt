@@ -1,0 +1,13 @@
+pub mod Joins
+pub mod Splits
+pub mod Elements
+pub mod Runs
+pub mod Forms
+pub mod Prologs
+pub mod Written
+pub mod Ends
+pub mod ContentParts
+pub mod DocumentParts
+pub mod RunParts
+pub mod TokenParts
+pub mod Instances

@@ -1,0 +1,5 @@
+use Rattle.mm_xml_laws.proofs.Instances as instances
+use Rattle.mm_xml_laws.proofs.productions.comment.Goals as goal
+
+pub returns : goal.returns
+returns c = λ cs is plain. instances.comment cs is plain
