@@ -133,7 +133,7 @@ fn walk<K: Keeper, L: Ledger>(
     Ok(!stood && !went_on && !went_back && !cursor.stands())
 }
 
-// The weight after each change of a map, and the lengths of the value that was replaced and of the one taken out.
+// The weight after each change of a map, the length of the value that was replaced, and of an entry that was taken out.
 fn weigh(alloc: Global) -> Result<[u64; 5], AllocError> {
     let mut map = SortedMap::new(alloc);
     let none = set(&mut map, b"key", b"1")?.is_none();
@@ -198,27 +198,47 @@ fn left_uncounted(alloc: Global) -> Result<(bool, bool, [u64; 3]), Fault> {
     left::<Brand>(alloc, Blank::new(1))
 }
 
-// Which of four calls were refused, and how often the keeper failed.
-fn refusals<L: Ledger>(failing: Vec<u64>, blank: Blank) -> ([bool; 4], u64)
+// Whether each call of a keeper answers that it is spent.
+fn is_spent<K: Keeper, L: Ledger>(keeper: &mut K, steps: &mut Steps<L>) -> bool
+    requires { K.is_sound keeper.old }
+    ensures { K.is_sound keeper.new }
+{
+    let got = matches!(keeper.get(b"a", steps), Err(Fault::Spent));
+    let went = matches!(keeper.up(b"a", steps), Err(Fault::Spent))
+        && matches!(keeper.down(b"a", steps), Err(Fault::Spent));
+    let removed = matches!(keeper.remove(b"a", steps), Err(Fault::Spent));
+    let kept = matches!(keeper.commit(), Err(Fault::Spent))
+        && matches!(keeper.tick(1), Err(Fault::Spent));
+    got && went && removed && kept && !put(keeper, b"a", b"", steps)
+}
+
+// Whether the first call is answered and the second fails, whether each later one is refused, and how often the keeper failed.
+fn fail<L: Ledger>(failing: Vec<u64>, blank: Blank) -> (bool, bool, bool, u64)
     requires name { blank.name ≡ L.name }
     requires parts { blank.parts ≡ L.parts }
     requires some { 0 < blank.parts }
 {
     let mut steps = Steps::<L>::new(blank);
     let mut keeper = VecKeeper::new(failing);
-    let first = keeper.get(b"a", &mut steps).is_err();
-    let second = keeper.commit().is_err();
-    let third = matches!(keeper.remove(b"a", &mut steps), Err(Fault::Spent));
-    let fourth = matches!(keeper.tick(1), Err(Fault::Spent));
-    ([first, second, third, fourth], keeper.faults())
+    let first = keeper.get(b"a", &mut steps).is_ok();
+    let second = matches!(keeper.commit(), Err(Fault::DiskFault));
+    let spent = is_spent(&mut keeper, &mut steps);
+    (first, second, spent, keeper.faults())
 }
 
-fn refusals_uncounted(failing: Vec<u64>) -> ([bool; 4], u64) {
-    refusals::<Brand>(failing, Blank::new(1))
+fn fail_uncounted(failing: Vec<u64>) -> (bool, bool, bool, u64) {
+    fail::<Brand>(failing, Blank::new(1))
+}
+
+// The lengths of the key and the value of an entry that is owned.
+fn lengths(alloc: Global) -> Result<[usize; 2], AllocError> {
+    let item = Item::new(alloc, b"key", b"value")?;
+    Ok([item.key().len(), item.value().len()])
 }
 
 #[test]
 fn entries_are_kept_in_order(rt: HostRuntime) -> Result<(), Fail> {
+    assert_eq!(rt; lengths(rt.alloc())?, [3, 5]);
     assert_eq!(rt; weigh(rt.alloc())?, [4, 1, 6, 3, 0]);
     let (is_done, text) = found_uncounted(rt.alloc())?;
     assert!(rt; is_done);
@@ -230,8 +250,6 @@ fn entries_are_kept_in_order(rt: HostRuntime) -> Result<(), Fail> {
 #[test]
 fn a_listed_call_fails_and_each_later_one_is_spent(rt: HostRuntime) -> Result<(), Fail> {
     let failing = Vec::from_slice(rt.alloc(), &[2])?;
-    let (refused, faults) = refusals_uncounted(failing);
-    assert_eq!(rt; refused, [false, true, true, true]);
-    assert_eq!(rt; faults, 1);
+    assert_eq!(rt; fail_uncounted(failing), (true, true, true, 1));
     Ok(())
 }
