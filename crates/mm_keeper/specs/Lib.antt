@@ -5,3 +5,4 @@ pub mod Moments
 pub mod Keeping
 pub mod Lending
 pub mod Inside
+pub mod Facts

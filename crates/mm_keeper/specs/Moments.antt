@@ -7,3 +7,7 @@ pub record LeavesOnly {D I : Type 0} (moment : D → ℕ) (left_since : D → �
   pub each : (i : I) → left_since new (moment old) i → P i
   -- for a run that began earlier
   pub before : (t : ℕ) (i : I) → t ≤ moment old → left_since new t i → left_since old t i ⊎ P i
+
+-- A crash at any moment since old leaves what one at old might have left.
+abbrev pub LeavesAsBefore : {D I : Type 0} → (D → ℕ) → (D → ℕ → I → Type 0) → D → D → Type 0
+LeavesAsBefore moment left_since old new = LeavesOnly moment left_since old new (left_since old (moment old))

@@ -5,7 +5,7 @@ ghost use Rattle.std.specs.Borrow.{follows_so, sem};
 ghost use mathlib.Core.Option.{none};
 ghost use mir.Syntax.{named};
 ghost use Rattle.mm_keeper.specs.Entries.{within, one_before, first_from, last_to};
-ghost use Rattle.mm_keeper.specs.Moments.{LeavesOnly};
+ghost use Rattle.mm_keeper.specs.Moments.{LeavesAsBefore};
 ghost use Rattle.mm_keeper.specs.Keeping.{Keeps, WritesNothing, fault_of};
 ghost use Rattle.mm_keeper.specs.Lending.{lend_fault_of};
 
@@ -53,7 +53,7 @@ impl<'a, K: Keeper> Cursor<'a, K> {
         ensures same_reference { self.new.keeper.ghost_name ≡ self.old.keeper.ghost_name }
         ensures same { K.has_maps self.old.keeper.now → K.seen self.new.keeper.now ≡ K.seen self.old.keeper.now }
         ensures quiet { K.tells → WritesNothing K.written K.changes 0 self.old.keeper.now self.new.keeper.now }
-        ensures any_moment { K.has_maps self.old.keeper.now → K.is_spent self.old.keeper.now ≡ false → LeavesOnly K.moment K.left_since self.old.keeper.now self.new.keeper.now (λ m. m ≡ Some (K.seen self.old.keeper.now).kept) }
+        ensures any_moment { K.has_maps self.old.keeper.now → LeavesAsBefore K.moment K.left_since self.old.keeper.now self.new.keeper.now }
         ensures keeps { Keeps K.over K.has_maps K.is_sound K.is_spent K.fault_count K.want_count false self.old.keeper.now self.new.keeper.now (fault_of result) }
         ensures step { steps.new ≡ steps.old + 1 }
     {
@@ -75,7 +75,7 @@ impl<'a, K: Keeper> Cursor<'a, K> {
         ensures same_reference { self.new.keeper.ghost_name ≡ self.old.keeper.ghost_name }
         ensures same { K.has_maps self.old.keeper.now → K.seen self.new.keeper.now ≡ K.seen self.old.keeper.now }
         ensures quiet { K.tells → WritesNothing K.written K.changes 0 self.old.keeper.now self.new.keeper.now }
-        ensures any_moment { K.has_maps self.old.keeper.now → K.is_spent self.old.keeper.now ≡ false → LeavesOnly K.moment K.left_since self.old.keeper.now self.new.keeper.now (λ m. m ≡ Some (K.seen self.old.keeper.now).kept) }
+        ensures any_moment { K.has_maps self.old.keeper.now → LeavesAsBefore K.moment K.left_since self.old.keeper.now self.new.keeper.now }
         ensures keeps { Keeps K.over K.has_maps K.is_sound K.is_spent K.fault_count K.want_count false self.old.keeper.now self.new.keeper.now (fault_of result) }
         ensures step { steps.new ≡ steps.old + 1 }
     {
@@ -99,7 +99,7 @@ impl<'a, K: Keeper> Cursor<'a, K> {
         ensures same_reference { self.new.keeper.ghost_name ≡ self.old.keeper.ghost_name }
         ensures same { K.has_maps self.old.keeper.now → K.seen self.new.keeper.now ≡ K.seen self.old.keeper.now }
         ensures quiet { K.tells → WritesNothing K.written K.changes 0 self.old.keeper.now self.new.keeper.now }
-        ensures any_moment { K.has_maps self.old.keeper.now → K.is_spent self.old.keeper.now ≡ false → LeavesOnly K.moment K.left_since self.old.keeper.now self.new.keeper.now (λ m. m ≡ Some (K.seen self.old.keeper.now).kept) }
+        ensures any_moment { K.has_maps self.old.keeper.now → LeavesAsBefore K.moment K.left_since self.old.keeper.now self.new.keeper.now }
         ensures keeps { Keeps K.over K.has_maps K.is_sound K.is_spent K.fault_count K.want_count false self.old.keeper.now self.new.keeper.now (fault_of result) }
         ensures step { steps.new ≡ steps.old + 1 }
     {
@@ -126,7 +126,7 @@ impl<'a, K: Keeper> Cursor<'a, K> {
         ensures same_reference { self.new.keeper.ghost_name ≡ self.old.keeper.ghost_name }
         ensures same { K.has_maps self.old.keeper.now → K.seen self.new.keeper.now ≡ K.seen self.old.keeper.now }
         ensures quiet { K.tells → WritesNothing K.written K.changes 0 self.old.keeper.now self.new.keeper.now }
-        ensures any_moment { K.has_maps self.old.keeper.now → K.is_spent self.old.keeper.now ≡ false → LeavesOnly K.moment K.left_since self.old.keeper.now self.new.keeper.now (λ m. m ≡ Some (K.seen self.old.keeper.now).kept) }
+        ensures any_moment { K.has_maps self.old.keeper.now → LeavesAsBefore K.moment K.left_since self.old.keeper.now self.new.keeper.now }
         ensures keeps { Keeps K.over K.has_maps K.is_sound K.is_spent K.fault_count K.want_count false self.old.keeper.now self.new.keeper.now (fault_of result) }
         ensures step { steps.new ≡ steps.old + 1 }
     {
@@ -158,7 +158,7 @@ impl<'a, K: Keeper> Cursor<'a, K> {
             (λ n. (n.keeper.ghost_name ≡ self.old.keeper.ghost_name) × (n.spot ≡ self.old.spot)
             × (K.has_maps self.old.keeper.now → K.seen n.keeper.now ≡ K.seen self.old.keeper.now)
             × (K.tells → WritesNothing K.written K.changes 0 self.old.keeper.now n.keeper.now)
-            × (K.has_maps self.old.keeper.now → K.is_spent self.old.keeper.now ≡ false → LeavesOnly K.moment K.left_since self.old.keeper.now n.keeper.now (λ m. m ≡ Some (K.seen self.old.keeper.now).kept))
+            × (K.has_maps self.old.keeper.now → LeavesAsBefore K.moment K.left_since self.old.keeper.now n.keeper.now)
             × Keeps K.over K.has_maps K.is_sound K.is_spent K.fault_count K.want_count false self.old.keeper.now n.keeper.now (lend_fault_of result))) }
         ensures lent { K.has_maps self.old.keeper.now → IfOk result (λ k. IfSome self.old.spot (λ s. option_map (λ e. e.0) (slice_get (K.seen self.old.keeper.now).now ((K.seen self.old.keeper.now).place s)) ≡ Some k.now)) }
     {
@@ -180,7 +180,7 @@ impl<'a, K: Keeper> Cursor<'a, K> {
             (λ n. (n.keeper.ghost_name ≡ self.old.keeper.ghost_name) × (n.spot ≡ self.old.spot)
             × (K.has_maps self.old.keeper.now → K.seen n.keeper.now ≡ K.seen self.old.keeper.now)
             × (K.tells → WritesNothing K.written K.changes 0 self.old.keeper.now n.keeper.now)
-            × (K.has_maps self.old.keeper.now → K.is_spent self.old.keeper.now ≡ false → LeavesOnly K.moment K.left_since self.old.keeper.now n.keeper.now (λ m. m ≡ Some (K.seen self.old.keeper.now).kept))
+            × (K.has_maps self.old.keeper.now → LeavesAsBefore K.moment K.left_since self.old.keeper.now n.keeper.now)
             × Keeps K.over K.has_maps K.is_sound K.is_spent K.fault_count K.want_count false self.old.keeper.now n.keeper.now (lend_fault_of result))) }
         ensures lent { K.has_maps self.old.keeper.now → IfOk result (λ v. IfSome self.old.spot (λ s. option_map (λ e. e.1) (slice_get (K.seen self.old.keeper.now).now ((K.seen self.old.keeper.now).place s)) ≡ Some v.now)) }
     {

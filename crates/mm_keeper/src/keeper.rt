@@ -5,7 +5,7 @@ ghost use Rattle.std.specs.Borrow.{follows_so, sem};
 ghost use mathlib.Core.Option.{none};
 ghost use Rattle.mm_host.specs.Causes.{Rose};
 ghost use Rattle.mm_keeper.specs.Entries.{Entries, IsSorted, HasRoom, has, put, without, index_of, within, one_before, first_from, last_to, weight_of};
-ghost use Rattle.mm_keeper.specs.Moments.{LeavesOnly};
+ghost use Rattle.mm_keeper.specs.Moments.{LeavesOnly, LeavesAsBefore};
 ghost use Rattle.mm_keeper.specs.Keeping.{Seen, Written, Keeps, WritesNothing, fault_of};
 ghost use Rattle.mm_keeper.specs.Lending.{lend_fault_of};
 
@@ -73,7 +73,7 @@ pub trait Keeper {
         ensures found { has_maps self.old → IfOk result (λ s. option_map (seen self.old).place s ≡ index_of (seen self.old).now key.now) }
         ensures same { has_maps self.old → seen self.new ≡ seen self.old }
         ensures quiet { tells → WritesNothing written changes 0 self.old self.new }
-        ensures any_moment { has_maps self.old → is_spent self.old ≡ false → LeavesOnly moment left_since self.old self.new (λ m. m ≡ Some (seen self.old).kept) }
+        ensures any_moment { has_maps self.old → LeavesAsBefore moment left_since self.old self.new }
         ensures keeps { Keeps over has_maps is_sound is_spent fault_count want_count false self.old self.new (fault_of result) }
         ensures step { steps.new ≡ steps.old + 1 };
 
@@ -87,7 +87,7 @@ pub trait Keeper {
         ensures found { has_maps self.old → IfOk result (λ s. option_map (seen self.old).place s ≡ first_from (seen self.old).now key.now) }
         ensures same { has_maps self.old → seen self.new ≡ seen self.old }
         ensures quiet { tells → WritesNothing written changes 0 self.old self.new }
-        ensures any_moment { has_maps self.old → is_spent self.old ≡ false → LeavesOnly moment left_since self.old self.new (λ m. m ≡ Some (seen self.old).kept) }
+        ensures any_moment { has_maps self.old → LeavesAsBefore moment left_since self.old self.new }
         ensures keeps { Keeps over has_maps is_sound is_spent fault_count want_count false self.old self.new (fault_of result) }
         ensures step { steps.new ≡ steps.old + 1 };
 
@@ -101,7 +101,7 @@ pub trait Keeper {
         ensures found { has_maps self.old → IfOk result (λ s. option_map (seen self.old).place s ≡ last_to (seen self.old).now key.now) }
         ensures same { has_maps self.old → seen self.new ≡ seen self.old }
         ensures quiet { tells → WritesNothing written changes 0 self.old self.new }
-        ensures any_moment { has_maps self.old → is_spent self.old ≡ false → LeavesOnly moment left_since self.old self.new (λ m. m ≡ Some (seen self.old).kept) }
+        ensures any_moment { has_maps self.old → LeavesAsBefore moment left_since self.old self.new }
         ensures keeps { Keeps over has_maps is_sound is_spent fault_count want_count false self.old self.new (fault_of result) }
         ensures step { steps.new ≡ steps.old + 1 };
 
@@ -116,7 +116,7 @@ pub trait Keeper {
         ensures found { has_maps self.old → IfOk result (λ s. option_map (seen self.old).place s ≡ within (seen self.old).now ((seen self.old).place spot + 1)) }
         ensures same { has_maps self.old → seen self.new ≡ seen self.old }
         ensures quiet { tells → WritesNothing written changes 0 self.old self.new }
-        ensures any_moment { has_maps self.old → is_spent self.old ≡ false → LeavesOnly moment left_since self.old self.new (λ m. m ≡ Some (seen self.old).kept) }
+        ensures any_moment { has_maps self.old → LeavesAsBefore moment left_since self.old self.new }
         ensures keeps { Keeps over has_maps is_sound is_spent fault_count want_count false self.old self.new (fault_of result) }
         ensures step { steps.new ≡ steps.old + 1 };
 
@@ -131,7 +131,7 @@ pub trait Keeper {
         ensures found { has_maps self.old → IfOk result (λ s. option_map (seen self.old).place s ≡ one_before ((seen self.old).place spot)) }
         ensures same { has_maps self.old → seen self.new ≡ seen self.old }
         ensures quiet { tells → WritesNothing written changes 0 self.old self.new }
-        ensures any_moment { has_maps self.old → is_spent self.old ≡ false → LeavesOnly moment left_since self.old self.new (λ m. m ≡ Some (seen self.old).kept) }
+        ensures any_moment { has_maps self.old → LeavesAsBefore moment left_since self.old self.new }
         ensures keeps { Keeps over has_maps is_sound is_spent fault_count want_count false self.old self.new (fault_of result) }
         ensures step { steps.new ≡ steps.old + 1 };
 
@@ -142,7 +142,7 @@ pub trait Keeper {
         ensures* rests { sem 𝓛 (follows_so Self.row Self.row self.entry.ghost_name none (λ _ _. ⊤)
             (λ n. (has_maps self.old → seen n ≡ seen self.old)
             × (tells → WritesNothing written changes 0 self.old n)
-            × (has_maps self.old → is_spent self.old ≡ false → LeavesOnly moment left_since self.old n (λ m. m ≡ Some (seen self.old).kept))
+            × (has_maps self.old → LeavesAsBefore moment left_since self.old n)
             × Keeps over has_maps is_sound is_spent fault_count want_count false self.old n (lend_fault_of result))) }
         ensures lent { has_maps self.old → IfOk result (λ e. slice_get (seen self.old).now ((seen self.old).place spot) ≡ Some (e.key.now, e.value.now)) };
 
@@ -207,6 +207,9 @@ pub trait Keeper {
     /// How often the disk below has found no memory; without a disk 0.
     fn wants(&self) -> u64
         ensures { result ≡ want_count self.now };
+
+    /// What every call needs has one proof at most, so that what holds a keeper may keep it in a field.
+    ghost sound_prop: { (k : Self) → IsProp (is_sound k) };
 
     /// A keeper's map is sorted.
     ghost sorted: { (k : Self) → is_sound k → has_maps k → IsSorted (seen k).now };

@@ -2,7 +2,7 @@
 //! keeper in memory, and a cursor.
 //!
 //! A put, a remove or a commit during a cursor's life doesn't compile, since the cursor holds the keeper for
-//! writing: each was tried by hand between `Cursor::new` and a later call of the cursor, and refused.
+//! writing.
 #![tactic(auto)]
 
 mod block;

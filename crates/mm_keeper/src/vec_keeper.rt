@@ -153,6 +153,7 @@ impl Keeper for VecKeeper {
     ghost use Rattle.mm_keeper.specs.Blocks.{joined};
     ghost use Rattle.mm_keeper.specs.Places.{place_of};
     ghost use Rattle.mm_keeper.specs.Keeping.{Seen, Written};
+    ghost use Rattle.mm_keeper.specs.Facts.Sorting.{IsSorted-prop};
     ghost use Rattle.mm_keeper.specs.Inside.Olds.{before_all};
 
     ghost Device = { Unit {0} };
@@ -180,6 +181,8 @@ impl Keeper for VecKeeper {
     ghost written = { λ _. record { pages = 0; journal = 0 } };
 
     ghost changes = { λ _. 0 };
+
+    ghost sound_prop = { λ k. IsSorted-prop (joined k.map) };
 
     ghost sorted = { λ k sound maps. sound };
 

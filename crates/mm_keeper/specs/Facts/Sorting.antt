@@ -1,0 +1,16 @@
+-- That a map is sorted has one proof at most.
+use Rattle.std.specs.Prelude.{◌≡◌, ℕ, List, [], ◌∷◌, true, ⊤}
+use Rattle.std.specs.Coded.{×_prop, Unit-prop}
+use mathlib.Core.Bool.{Bool-set}
+use Rattle.mm_keeper.specs.Entries.{Entries, below, IsBelow, Rises, IsSorted}
+
+pub IsBelow-prop : (k : List ℕ) (m : Entries) → IsProp (IsBelow k m)
+IsBelow-prop k [] = Unit-prop
+IsBelow-prop k (e ∷ m) = ×_prop (Bool-set _ _) (IsBelow-prop k m)
+
+pub Rises-prop : (m : Entries) → IsProp (Rises m)
+Rises-prop [] = Unit-prop
+Rises-prop (e ∷ m) = ×_prop (IsBelow-prop e.0 m) (Rises-prop m)
+
+pub IsSorted-prop : (m : Entries) → IsProp (IsSorted m)
+IsSorted-prop m x y = λ i. record { rises = Rises-prop m x.rises y.rises i }
