@@ -1,12 +1,12 @@
 // The call that makes a fragment of an answer.
-ghost use Rattle.std.specs.Prelude.{◌≡◌, ◌↔◌, ◌+◌, ◌≤◌, Some, IfOk, IfErr, AllPairs, IsTrue};
+ghost use Rattle.std.specs.Prelude.{◌≡◌, ◌+◌, ◌≤◌, Some, IfOk, AllPairs, IsTrue};
 ghost use Rattle.mm_label.specs.Label.{IsBefore};
 ghost use Rattle.mm_tree.specs.Trees.{Tree, Trees};
 ghost use Rattle.mm_tree.specs.Numbering.{Labelled, forest_of};
 ghost use Rattle.mm_tree.specs.Forests.{is_well_formed};
 ghost use Rattle.mm_tree.specs.Edits.{found};
 ghost use Rattle.mm_tree.specs.Fragments.{fragment, fragment_tree};
-ghost use Rattle.mm_lists.specs.Causes.{Caused, IsSound};
+ghost use Rattle.mm_lists.specs.Leaves.{Leaves};
 ghost use Rattle.mm_fragment.specs.Bound.{cost_of};
 ghost use Rattle.mm_fragment.specs.Matching.{Tells, matches_of, open_nodes};
 ghost use Rattle.mm_fragment.specs.Showing.{named_in};
@@ -64,10 +64,7 @@ pub fn fragment<X: Lists, L: Ledger>(
 ) -> Result<Fragment, Fault>
     ensures value { (t : Tree Labelled) → X.stands lists.old (forest_of forest.now) → found root.now (forest_of forest.now) ≡ Some t → AllPairs IsBefore answers.now → Tells answers.now query.now (named_in t)
         → IfOk result (λ r. fragment_tree r ≡ fragment query.now (named_in t)) }
-    ensures kept { (f : Trees Labelled) → X.stands lists.old f ↔ X.stands lists.new f }
-    ensures ground { X.same_ground lists.old lists.new }
-    ensures cause { Caused (X.fault_count lists.old) (X.fault_count lists.new) (X.spent lists.old) (X.spent lists.new) result }
-    ensures sound { (f : Trees Labelled) → X.stands lists.old f → IfErr result IsSound }
+    ensures leaves { Leaves X.stands X.same_ground X.fault_count X.spent lists.old lists.new result }
     ensures cost { (t : Tree Labelled) → X.stands lists.old (forest_of forest.now) → found root.now (forest_of forest.now) ≡ Some t → AllPairs IsBefore answers.now → Tells answers.now query.now (named_in t)
         → steps.new ≤ steps.old + cost_of query.now (named_in t) }
 {

@@ -1,10 +1,10 @@
 //! The matches below a root: for each word of the query the nodes that hold it themselves, but those at or
 //! below a full child of the root.
 
-ghost use Rattle.std.specs.Prelude.{◌≡◌, ◌↔◌, ◌+◌, ◌^◌, ◌≤◌, ◌<◌, ◌++◌, ℕ, ℤ, List, Some, IfOk, IfErr, OnOk, length};
+ghost use Rattle.std.specs.Prelude.{◌≡◌, ◌+◌, ◌^◌, ◌≤◌, ◌<◌, ◌++◌, ℕ, ℤ, List, Some, IfOk, OnOk, length};
 ghost use Rattle.mm_tree.specs.Trees.{Tree, Trees};
 ghost use Rattle.mm_tree.specs.Numbering.{Labelled};
-ghost use Rattle.mm_lists.specs.Causes.{Caused, IsSound};
+ghost use Rattle.mm_lists.specs.Leaves.{Leaves};
 ghost use Rattle.mm_label.specs.Fronts.{Front};
 ghost use Rattle.mm_fragment.specs.Bound.{cost_of, full_count, holders};
 ghost use Rattle.mm_fragment.specs.Inside.Gathering.{IsAsked, Passes, WalkedBelow, open_holders};
@@ -36,10 +36,7 @@ fn pass<X: Lists, L: Ledger>(
     ensures value { (f : Trees Labelled) (t : Tree Labelled) (query : List (List ℕ)) (done : List (List ℤ)) (passed : ℕ) → X.stands lists.old f → IsAsked f root.now.label.now t root.now.answers.now query
         → WalkedBelow f root.now.label.now t query word.now done passed (Some mark.label) → Front root.now.label.now mark.label
         → IfOk result (Passes f root.now.label.now t query word.now mark.mask done passed marks.old marks.new) }
-    ensures kept { (f : Trees Labelled) → X.stands lists.old f ↔ X.stands lists.new f }
-    ensures ground { X.same_ground lists.old lists.new }
-    ensures cause { Caused (X.fault_count lists.old) (X.fault_count lists.new) (X.spent lists.old) (X.spent lists.new) result }
-    ensures sound { (f : Trees Labelled) → X.stands lists.old f → IfErr result IsSound }
+    ensures leaves { Leaves X.stands X.same_ground X.fault_count X.spent lists.old lists.new result }
     ensures ticks { OnOk result (steps.new ≡ steps.old + 1) }
     ensures most { steps.new ≤ steps.old + 1 }
 {
@@ -63,10 +60,7 @@ fn gather<X: Lists, L: Ledger>(
 ) -> Result<(), Fault>
     ensures value { (f : Trees Labelled) (t : Tree Labelled) (query : List (List ℕ)) → X.stands lists.old f → IsAsked f root.now.label.now t root.now.answers.now query
         → OnOk result (marks.new ≡ marks.old ++ marks_of bit (open_holders word.now query (named_in t))) }
-    ensures kept { (f : Trees Labelled) → X.stands lists.old f ↔ X.stands lists.new f }
-    ensures ground { X.same_ground lists.old lists.new }
-    ensures cause { Caused (X.fault_count lists.old) (X.fault_count lists.new) (X.spent lists.old) (X.spent lists.new) result }
-    ensures sound { (f : Trees Labelled) → X.stands lists.old f → IfErr result IsSound }
+    ensures leaves { Leaves X.stands X.same_ground X.fault_count X.spent lists.old lists.new result }
     ensures cost { (f : Trees Labelled) (t : Tree Labelled) (query : List (List ℕ)) → X.stands lists.old f → IsAsked f root.now.label.now t root.now.answers.now query
         → steps.new ≤ steps.old + (holders word.now (open_nodes query (named_in t)) + (full_count query (named_in t).1 + 1)) }
 {
@@ -101,10 +95,7 @@ pub fn matches<X: Lists, L: Ledger>(
     requires { length words.now ≤ 32 }
     ensures value { (f : Trees Labelled) (t : Tree Labelled) → X.stands lists.old f → IsAsked f root.now.label.now t root.now.answers.now words.now
         → IfOk result (λ r. r ≡ matches_of 1 words.now (open_nodes words.now (named_in t))) }
-    ensures kept { (f : Trees Labelled) → X.stands lists.old f ↔ X.stands lists.new f }
-    ensures ground { X.same_ground lists.old lists.new }
-    ensures cause { Caused (X.fault_count lists.old) (X.fault_count lists.new) (X.spent lists.old) (X.spent lists.new) result }
-    ensures sound { (f : Trees Labelled) → X.stands lists.old f → IfErr result IsSound }
+    ensures leaves { Leaves X.stands X.same_ground X.fault_count X.spent lists.old lists.new result }
     ensures cost { (f : Trees Labelled) (t : Tree Labelled) → X.stands lists.old f → IsAsked f root.now.label.now t root.now.answers.now words.now
         → steps.new ≤ steps.old + cost_of words.now (named_in t) }
 {

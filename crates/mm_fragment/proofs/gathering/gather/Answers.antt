@@ -15,10 +15,10 @@ loop-init g c = record {
 
 pub loop-preserved : goal.loop-preserved
 loop-preserved g c = record {
-  kept = λ f. kept_along _ _ _ (c.loop.invariant.kept f) (c.pass.ensures.kept f);
-  ground = g.met.X.Lists.same_along _ _ _ c.loop.invariant.ground c.pass.ensures.ground;
-  later = omega (arith, c.pass.ensures.cause.later, c.loop.invariant.later);
-  unspent = λ e. c.loop.invariant.unspent (c.in_ok-at-2.ensures.cause.ok e);
+  kept = λ f. kept_along _ _ _ (c.loop.invariant.kept f) (c.pass.ensures.leaves.kept f);
+  ground = g.met.X.Lists.same_along _ _ _ c.loop.invariant.ground c.pass.ensures.leaves.ground;
+  later = omega (arith, c.pass.ensures.leaves.cause.later, c.loop.invariant.later);
+  unspent = λ e. c.loop.invariant.unspent (c.in_ok-at-2.ensures.leaves.cause.ok e);
   value = λ f t query s k.
       let x = c.args.root.now.label.now in
       let w = c.args.word.now in

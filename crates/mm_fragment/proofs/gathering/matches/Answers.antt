@@ -8,10 +8,10 @@ use Rattle.mm_fragment.proofs.gathering.matches.Goals as goal
 
 pub loop-word-preserved : goal.loop-word-preserved
 loop-word-preserved g c = record {
-  kept = λ f. kept_along _ _ _ (c.loop-word.invariant.kept f) (c.gather.ensures.kept f);
-  ground = g.met.X.Lists.same_along _ _ _ c.loop-word.invariant.ground c.gather.ensures.ground;
-  later = omega (arith, c.gather.ensures.cause.later, c.loop-word.invariant.later);
-  unspent = λ e. c.loop-word.invariant.unspent (c.in_ok-gather.ensures.cause.ok e);
+  kept = λ f. kept_along _ _ _ (c.loop-word.invariant.kept f) (c.gather.ensures.leaves.kept f);
+  ground = g.met.X.Lists.same_along _ _ _ c.loop-word.invariant.ground c.gather.ensures.leaves.ground;
+  later = omega (arith, c.gather.ensures.leaves.cause.later, c.loop-word.invariant.later);
+  unspent = λ e. c.loop-word.invariant.unspent (c.in_ok-gather.ensures.leaves.cause.ok e);
   bit = next_bit c.loop-word.word-index c.loop-word.bit c.doubled-bit.result c.loop-word.invariant.bit c.doubled-bit.ensures;
   value = λ f t s k.
       let ws = c.args.words.now in
