@@ -9,12 +9,13 @@ mod decode;
 mod doctype;
 mod error;
 pub mod laws;
-mod letters;
+
 mod lexeme;
 mod order;
 mod outline;
 mod reader;
 mod reference;
+mod spans;
 mod stack;
 mod text;
 mod writer;
