@@ -7,7 +7,7 @@ ghost use Rattle.mm_xml.specs.Inside.Lexing.{part_at, parts_at, value_at, attrib
 ghost use Rattle.mm_xml.specs.Inside.Telling.{tell_parts, tell_character, tell_value, tell_attributes, attribute_at};
 ghost use Rattle.mm_xml.specs.Inside.Lexemes.{Gets, GetsText, GetsCharacter, Rests};
 
-use crate::spans::{name_span, space_span};
+use crate::leading::{name_span, space_span};
 use crate::reference::{Part, part_of};
 use crate::text::{after, first, is_empty, push};
 use mm_list::Items;

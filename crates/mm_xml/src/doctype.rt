@@ -11,7 +11,7 @@ ghost use Rattle.mm_xml.specs.Inside.Telling.{rest_of, both_rest};
 ghost use Rattle.mm_xml.specs.Inside.Lexemes.{Rests};
 
 use crate::attribute::is_quote;
-use crate::spans::{name_span, space_span};
+use crate::leading::{name_span, space_span};
 use crate::text::{after, first, split_after, strip};
 use mm_tree::characters::{between, is_blank, is_char, is_name};
 

@@ -11,7 +11,7 @@ ghost use Rattle.mm_xml.specs.Inside.Lexemes.{Finds, Gets, Skips};
 
 use crate::attribute::{are_distinct, attributes_of, text_of};
 use crate::doctype::after_doctype;
-use crate::spans::{name_span, space_span};
+use crate::leading::{name_span, space_span};
 use crate::reference::{Part, ordinary_span, part_of};
 use crate::text::{after, first, is_empty, strip, up_to};
 use mm_tree::characters::{are_chars, is_name, is_short_name, is_space};

@@ -9,13 +9,12 @@ mod decode;
 mod doctype;
 mod error;
 pub mod laws;
-
+mod leading;
 mod lexeme;
 mod order;
 mod outline;
 mod reader;
 mod reference;
-mod spans;
 mod stack;
 mod text;
 mod writer;

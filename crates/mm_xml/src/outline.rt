@@ -10,8 +10,8 @@ use crate::error::XmlError;
 use crate::lexeme::Lexeme;
 use crate::order::Order;
 use crate::text::is_empty;
-use mm_tree::characters::{is_blank, is_space};
 use mm_tree::Text;
+use mm_tree::characters::{is_blank, is_space};
 use std::alloc::Global;
 
 /// The names of the open elements, and whether a node was met: what tells whether characters spell a
