@@ -13,7 +13,8 @@ use Rattle.std.specs.BTreeMap.{BTreeMap}
 use Rattle.mm_tree.specs.Trees.{Trees}
 use Rattle.mm_tree.specs.Numbering.{Labelled}
 use Rattle.mm_tree.specs.Search.{list_of, worded}
-use Rattle.mm_lists.specs.Memory.{is_through, list_in, AreOf}
+use Rattle.mm_tree.specs.KeywordLists.{list_in}
+use Rattle.mm_lists.specs.Memory.{is_through, AreOf}
 use Rattle.mm_lists.specs.Lists.{IsFirst, IsLast, IsLeft, IsRight, IsNext, IsRightPast}
 use Rattle.mm_label.specs.Facts.Fronts.{front_yes, front_no, is_front_of, le_total, between_front}
 use Rattle.mm_label.specs.Facts.Order.{before_lt, le_before}

@@ -1,17 +1,14 @@
 -- Keyword lists in memory.
-use Rattle.std.specs.Prelude.{ℕ, ℤ, Bool, ◌||◌, List, [], ◌≡◌, IsTrue, unwrap_or}
-use Rattle.std.specs.BTreeMap.{BTreeMap, get}
-use Rattle.std.specs.Ordering.{nat_cmp, int_cmp, is_le}
+use Rattle.std.specs.Prelude.{ℕ, ℤ, Bool, ◌||◌, List, ◌≡◌, IsTrue}
+use Rattle.std.specs.BTreeMap.{BTreeMap}
+use Rattle.std.specs.Ordering.{int_cmp, is_le}
 use Rattle.std.specs.Cmp.Lexicographic.{slice_cmp}
 use Rattle.mm_tree.specs.Trees.{Trees}
 use Rattle.mm_tree.specs.Numbering.{Labelled}
 use Rattle.mm_tree.specs.Forests.{is_well_formed}
 use Rattle.mm_tree.specs.Search.{list_of, worded}
+use Rattle.mm_tree.specs.KeywordLists.{list_in}
 use Rattle.mm_label.specs.Fronts.{is_front}
-
--- the list under a word, empty where there is none
-abbrev pub list_in : BTreeMap (List ℕ) (List (List ℤ)) → List ℕ → List (List ℤ)
-list_in lists w = unwrap_or (get (slice_cmp nat_cmp) lists w) []
 
 -- the forest is well formed, and under each word stands its keyword list
 abbrev pub AreOf : BTreeMap (List ℕ) (List (List ℤ)) → Trees Labelled → Type 0

@@ -1,69 +1,23 @@
 //! Keyword lists in memory.
 
-ghost use Rattle.std.specs.Prelude.{◌≡◌, ◌≤◌, ◌++◌, ◌∷◌, [], refl, ℕ, List, AllPairs, IfOk, OnOk, length, slice_get, if◌then◌else◌, bytes_eq};
-ghost use Rattle.std.specs.List.{list_any};
+ghost use Rattle.std.specs.Prelude.{◌≡◌, ◌≤◌, refl, AllPairs, IfOk, length, slice_get};
 ghost use Rattle.std.proofs.Common.{◌∙◌};
 ghost use Rattle.std.specs.List.Sorted.{IsPartitionPoint};
 ghost use Rattle.mm_label.specs.Label.{IsBefore};
 ghost use Rattle.mm_tree.specs.Numbering.{forest_of};
-ghost use Rattle.mm_tree.specs.Search.{list_of, own, worded};
 ghost use Rattle.mm_label.specs.Fronts.{IsAtOrBefore, IsPast};
-ghost use Rattle.mm_lists.specs.Memory.{is_through, list_in};
+ghost use Rattle.mm_tree.specs.KeywordLists.{list_in};
+ghost use Rattle.mm_lists.specs.Memory.{is_through};
 
 use crate::lists::Lists;
 use mm_host::Fault;
 use mm_label::Label;
 use mm_list::Items;
 use mm_steps::Steps;
-use mm_tree::{Forest, Kind, Node, own_words};
+use mm_tree::{Forest, KeywordLists, keyword_lists};
 use mm_words::Word;
 use std::alloc::{AllocError, Global};
-use std::collections::BTreeMap;
 use std::sync::ledger::Ledger;
-
-/// The labels of the nodes that hold a word, under each word that a node holds.
-type ByWord = BTreeMap<Word, Items<Label>>;
-
-/// Puts a label behind the list of a word.
-fn put(alloc: Global, lists: &mut ByWord, word: Word, label: Label) -> Result<(), AllocError>
-    ensures { OnOk result ((w : List ℕ) → list_in lists.new w ≡ list_in lists.old w ++ (if bytes_eq w word then label ∷ [] else [])) }
-{
-    if let Some(list) = lists.get_mut(&word) {
-        list.push(label)?;
-        return Ok(());
-    }
-    let mut list = Items::new(alloc);
-    list.push(label)?;
-    lists.insert(word, list)?;
-    Ok(())
-}
-
-/// Puts the label of a node behind the lists of its own words.
-fn put_words(
-    alloc: Global,
-    lists: &mut ByWord,
-    label: &Label,
-    kind: &Kind,
-) -> Result<(), AllocError>
-    ensures { OnOk result ((w : List ℕ) → list_in lists.new w ≡ list_in lists.old w ++ (if list_any (bytes_eq w) (own kind.now) then label.now ∷ [] else [])) }
-{
-    let words = own_words(alloc, kind)?;
-    for word in words.into_vec() {
-        put(alloc, lists, word, label.copy(alloc)?)?;
-    }
-    Ok(())
-}
-
-/// Puts the labels of the nodes and of all below them behind the lists of their own words.
-fn gather(alloc: Global, lists: &mut ByWord, nodes: &[Node]) -> Result<(), AllocError>
-    ensures { OnOk result ((w : List ℕ) → list_in lists.new w ≡ list_in lists.old w ++ list_of w (worded (forest_of nodes.now))) }
-{
-    for node in nodes {
-        put_words(alloc, lists, &node.label, &node.kind)?;
-        gather(alloc, lists, node.children.as_slice())?;
-    }
-    Ok(())
-}
 
 /// How many of the labels come at or before the one.
 fn count_up_to(list: &[Label], at: &Label) -> usize
@@ -108,7 +62,7 @@ fn copied(alloc: Global, list: &[Label], at: usize) -> Result<Option<Label>, All
 #[derive(Drop)]
 pub struct MemLists {
     alloc: Global,
-    lists: ByWord,
+    lists: KeywordLists,
 }
 
 impl MemLists {
@@ -116,8 +70,7 @@ impl MemLists {
     pub fn of(alloc: Global, forest: &Forest) -> Result<MemLists, AllocError>
         ensures { IfOk result (λ l. ⟦<MemLists as Lists>⟧.stands l (forest_of forest.now)) }
     {
-        let mut lists = BTreeMap::new(alloc);
-        gather(alloc, &mut lists, forest.trees())?;
+        let lists = keyword_lists(alloc, forest.trees())?;
         Ok(MemLists { alloc, lists })
     }
 

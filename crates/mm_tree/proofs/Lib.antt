@@ -25,3 +25,5 @@ pub mod OwnerLaws
 pub mod ExclusiveLaws
 pub mod FragmentLaws
 pub mod FragmentFacts
+pub mod NameFacts
+pub mod Gathering

@@ -19,3 +19,4 @@ pub mod Rebuild
 pub mod Facts
 pub mod Inside
 pub mod Examples
+pub mod KeywordLists

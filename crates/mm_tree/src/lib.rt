@@ -5,9 +5,11 @@
 #![tactic(auto)]
 
 pub mod calls;
+pub mod characters;
 mod forest;
 mod fragment;
 mod hit;
+mod keywords;
 pub mod laws;
 mod measure;
 mod node;
@@ -20,6 +22,7 @@ mod text;
 pub use forest::{Done, Forest, LEVEL_LIMIT, Place};
 pub use fragment::{Fragment, Fragments};
 pub use hit::{Hit, Hits};
+pub use keywords::{KeywordLists, keyword_lists};
 pub use node::{Node, Nodes};
 pub use own::own_words;
 pub use plain::{Attribute, Attributes, Kind, NAME_LIMIT, Plain, Plains};

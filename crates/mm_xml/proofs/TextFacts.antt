@@ -13,7 +13,6 @@ use Rattle.std.proofs.Math.Seq.{drop-append-add}
 use Rattle.std.proofs.lemmas.Slice.Eq.{bytes_eq-Decides}
 use Rattle.std.proofs.lemmas.Str.{chars-nil, chars-append, chars-IsAscii, chars_past_char, chars_from_encodes, encodes-chars, encodes-append, IsUtf8-encode, IsUtf8-from_ascii, IsUtf8-append, IsUtf8-take, IsUtf8-drop, IsCharBoundary-at_seam, length-encode, len_utf8_bounds, length-le-encodes}
 use Rattle.std.proofs.lemmas.Bool.{and_from}
-use Rattle.mm_tree.specs.Characters.{is_name, is_short_name}
 use Rattle.mm_xml.specs.Letters.{starts, is_free, is_ascii}
 use Rattle.mm_xml.specs.Facts.Characters.{each_below, spelled_ascii, spelled_front}
 use Rattle.mm_xml.specs.Inside.Lexing.{up_to}
@@ -228,9 +227,6 @@ grows_by (Err x) new old more utf8 e = tt
 pub as_text : {E : Type 0} (r : Result (List ℕ) E) (bs : List ℕ) → IsUtf8 bs → IfOk r (λ t. t ≡ bs) → IfOk r (λ t. t ≡ encode_utf8_all (chars bs))
 as_text (Ok t) bs utf8 e = e ∙ sym (encodes-chars bs utf8)
 as_text (Err x) bs utf8 e = tt
-
-pub short : (bs : List ℕ) (b : Bool) → IsUtf8 bs → b ≡ is_name (chars bs) → b ≡ true → leb (length bs) 512 ≡ is_short_name (chars bs)
-short bs b utf8 e h = sym (ap (λ t. t && leb (length (encode_utf8_all (chars bs))) 512) (sym e ∙ h) ∙ ap (λ (r : List ℕ). leb (length r) 512) (encodes-chars bs utf8))
 
 pub has_line_feeds : (bs : List ℕ) (b : Bool) → IsUtf8 bs → MatchBool b (HasMatch (FindsChar 13) bs) (FindsChar 13 bs None) → not b ≡ true → normal false (chars bs) ≡ chars bs
 has_line_feeds bs true utf8 found e = absurd cc

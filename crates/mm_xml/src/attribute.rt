@@ -1,19 +1,18 @@
 //! Names, and the attributes of a start tag with their values.
 
 ghost use Rattle.std.specs.Prelude.{◌≡◌, [], length, IfOk};
-ghost use Rattle.std.specs.List.{list_all};
 ghost use Rattle.std.specs.Str.{chars, encode_utf8_all};
-ghost use Rattle.mm_tree.specs.Characters.{is_name as name_is, is_name_char as name_char_is, is_short_name as short_name_is};
 ghost use Rattle.mm_xml.specs.Syntax.{is_quote as quote_is, differ};
 ghost use Rattle.mm_xml.specs.Inside.Lexing.{part_at, parts_at, value_at, attributes_at, equals_at, starts_name as name_starts};
 ghost use Rattle.mm_xml.specs.Inside.Telling.{tell_parts, tell_character, tell_value, tell_attributes, attribute_at};
 ghost use Rattle.mm_xml.specs.Inside.Lexemes.{Gets, GetsText, GetsCharacter, Rests};
 
-use crate::letters::{is_name_char, is_name_start, is_space, name_span, space_span};
+use crate::leading::{name_span, space_span};
 use crate::reference::{Part, part_of};
 use crate::text::{after, first, is_empty, push};
 use mm_list::Items;
-use mm_tree::{Attribute, Attributes, NAME_LIMIT, Text};
+use mm_tree::characters::{is_name_start, is_short_name, is_space};
+use mm_tree::{Attribute, Attributes, Text};
 use std::alloc::{AllocError, Global};
 use std::collections::BTreeMap;
 
@@ -22,29 +21,6 @@ pub fn text_of(alloc: Global, text: &str) -> Result<Text, AllocError>
     ensures { IfOk result (λ t. t ≡ encode_utf8_all (chars text.now)) }
 {
     Text::from_str(alloc, text)
-}
-
-/// Name, production 5.
-pub fn is_name(text: &str) -> bool
-    ensures { result ≡ name_is (chars text.now) }
-{
-    match first(text) {
-        Some((c, rest)) => is_name_start(c) && are_name_chars(rest),
-        None => false,
-    }
-}
-
-fn are_name_chars(text: &str) -> bool
-    ensures { result ≡ list_all name_char_is (chars text.now) }
-{
-    text.chars().all(|c| is_name_char(c))
-}
-
-/// The name of an element or of an attribute: no longer than the limit.
-pub fn is_short_name(name: &str) -> bool
-    ensures { result ≡ short_name_is (chars name.now) }
-{
-    is_name(name) && name.len() <= NAME_LIMIT
 }
 
 /// Whether no two attributes have one name.

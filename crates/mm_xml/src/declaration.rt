@@ -11,9 +11,10 @@ ghost use Rattle.mm_xml.specs.Inside.Lexemes.{Rests, Splits};
 
 use crate::attribute::{after_equals, is_quote};
 use crate::doctype::{is_gap, text_len};
-use crate::letters::{between, space_span};
+use crate::leading::space_span;
 use crate::lexeme::is_letter;
 use crate::text::{after, first, is, split_after, strip};
+use mm_tree::characters::between;
 
 /// The text in quotes, and what comes after the quotes.
 fn quoted_of(text: &str) -> Option<(&str, &str)>

@@ -6,8 +6,8 @@ ghost use Rattle.mm_xml.specs.Grammar.{normal, without_mark as mark_dropped};
 ghost use Rattle.mm_xml.specs.Inside.Lexemes.{chars_of};
 ghost use Rattle.mm_xml.specs.Inside.Builds.{Decodes};
 
-use crate::letters::are_chars;
 use crate::text::{first, push};
+use mm_tree::characters::are_chars;
 use std::alloc::{AllocError, Global};
 
 /// The characters behind a byte order mark.

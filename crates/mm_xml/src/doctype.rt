@@ -10,9 +10,10 @@ ghost use Rattle.mm_xml.specs.Inside.Lexing.{span, quoted_char, quoted_at, space
 ghost use Rattle.mm_xml.specs.Inside.Telling.{rest_of, both_rest};
 ghost use Rattle.mm_xml.specs.Inside.Lexemes.{Rests};
 
-use crate::attribute::{is_name, is_quote};
-use crate::letters::{between, is_blank, is_char, name_span, space_span};
+use crate::attribute::is_quote;
+use crate::leading::{name_span, space_span};
 use crate::text::{after, first, split_after, strip};
+use mm_tree::characters::{between, is_blank, is_char, is_name};
 
 /// Whether there is white space and nothing else.
 pub fn is_gap(text: &str) -> bool

@@ -9,11 +9,12 @@ ghost use Rattle.mm_xml.specs.Inside.Telling.{tell, sign_at};
 ghost use Rattle.mm_xml.specs.Inside.Passages.{passage_at};
 ghost use Rattle.mm_xml.specs.Inside.Lexemes.{Finds, Gets, Skips};
 
-use crate::attribute::{are_distinct, attributes_of, is_name, is_short_name, text_of};
+use crate::attribute::{are_distinct, attributes_of, text_of};
 use crate::doctype::after_doctype;
-use crate::letters::{are_chars, is_space, name_span, space_span};
+use crate::leading::{name_span, space_span};
 use crate::reference::{Part, ordinary_span, part_of};
 use crate::text::{after, first, is_empty, strip, up_to};
+use mm_tree::characters::{are_chars, is_name, is_short_name, is_space};
 use mm_tree::{Attributes, Text};
 use std::alloc::{AllocError, Global};
 

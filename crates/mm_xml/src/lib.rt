@@ -9,7 +9,7 @@ mod decode;
 mod doctype;
 mod error;
 pub mod laws;
-mod letters;
+mod leading;
 mod lexeme;
 mod order;
 mod outline;

@@ -8,8 +8,8 @@ ghost use Rattle.mm_xml.specs.Grammar.{is_inside};
 ghost use Rattle.mm_xml.specs.Inside.Lexemes.{sign_of};
 
 use crate::error::XmlError;
-use crate::letters::is_space;
 use crate::lexeme::{Lexeme, next_passage};
+use mm_tree::characters::is_space;
 use std::alloc::Global;
 
 /// What the lexemes so far leave open: how many `]` stand just before, whether a document type may still

@@ -7,11 +7,11 @@ ghost use Rattle.mm_xml.specs.Inside.Builds.{outline_of, order_of, Moves, Blanks
 ghost use Rattle.mm_xml.specs.Inside.Lexemes.{sign_of};
 
 use crate::error::XmlError;
-use crate::letters::{is_blank, is_space};
 use crate::lexeme::Lexeme;
 use crate::order::Order;
 use crate::text::is_empty;
 use mm_tree::Text;
+use mm_tree::characters::{is_blank, is_space};
 use std::alloc::Global;
 
 /// The names of the open elements, and whether a node was met: what tells whether characters spell a

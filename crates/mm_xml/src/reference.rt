@@ -11,8 +11,8 @@ ghost use Rattle.mm_xml.specs.Inside.Lexemes.{FindsPart};
 ghost use Rattle.mm_xml.specs.Inside.Numbers.{capped};
 ghost use Rattle.mm_xml.specs.Inside.Passages.{is_ordinary as ordinary_is};
 
-use crate::letters::{between, is_char};
 use crate::text::{after, first, is, split_after};
+use mm_tree::characters::{between, is_char};
 
 /// A character of a text or of a value: itself, or by a reference.
 #[derive(Clone, Copy, Debug)]

@@ -12,8 +12,8 @@ ghost use Rattle.mm_xml.specs.Inside.Builds.{state_of, frame_of, frames_of, Step
 
 use crate::attribute::text_of;
 use crate::error::XmlError;
-use crate::letters::is_blank;
 use mm_list::Items;
+use mm_tree::characters::is_blank;
 use mm_tree::{Kind, LEVEL_LIMIT, Plain, Text};
 use std::alloc::{AllocError, Global};
 

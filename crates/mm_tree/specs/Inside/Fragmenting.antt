@@ -3,11 +3,9 @@ use Rattle.std.specs.Prelude.{Bool, not, ◌&&◌, List}
 use Rattle.std.specs.List.{list_all, list_any}
 use Rattle.mm_tree.specs.declared.node.Node.{Node}
 use Rattle.mm_tree.specs.declared.node.Node.TheViews.{out-Node}
-use Rattle.mm_tree.specs.Trees.{Tree}
-use Rattle.mm_tree.specs.Numbering.{node_of}
 use Rattle.mm_tree.specs.Hits.{name_of}
 use Rattle.mm_tree.specs.Search.{own}
-use Rattle.mm_tree.specs.Fragments.{Named, named, named_as, less, some}
+use Rattle.mm_tree.specs.Fragments.{Named, less, some}
 
 -- a node of the program with its name, and with all below it
 abbrev pub named_node : Node → Named

@@ -1,7 +1,7 @@
 -- What a search knows of the trees that it went through.
 use Rattle.std.specs.Prelude.{ℕ, Bool, ◌&&◌, ◌||◌, not, List, [], ◌∷◌, map, if◌then◌else◌, ℤ}
 use Rattle.mm_tree.specs.Trees.{Trees}
-use Rattle.mm_tree.specs.Search.{Worded, own, has, holds, is_full, some_full}
+use Rattle.mm_tree.specs.Search.{Worded, own, holds, is_full, some_full}
 use Rattle.mm_tree.specs.Elca.{outside, owns}
 use Rattle.mm_tree.specs.declared.node.Node.{Node}
 use Rattle.mm_tree.specs.declared.node.Node.TheViews.{out-Node}

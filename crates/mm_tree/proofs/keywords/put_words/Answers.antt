@@ -1,4 +1,4 @@
-use Rattle.std.proofs.Common.{rules, sym, subst, ap, ◌∙◌, ◌≡◌, ◌++◌, ◌∷◌, [], cond, List, Bool}
+use Rattle.std.proofs.Common.{rules, ℕ, sym, subst, ap, ◌∙◌, ◌≡◌, ◌++◌, ◌∷◌, [], cond, List, Bool}
 use Rattle.std.specs.Prelude.{bytes_eq}
 use Rattle.std.specs.List.{list_any}
 use Rattle.std.specs.List.Sorted.{IsStrictlySortedBy}
@@ -7,10 +7,9 @@ use Rattle.std.specs.Cmp.Lexicographic.{slice_cmp}
 use Rattle.std.specs.Vec.Iter.{into_iter_items, into_iter_len}
 use Rattle.mm_tree.specs.Search.{own}
 use Rattle.mm_label.specs.Fronts.{Label}
-use Rattle.mm_lists.specs.Full.{Word}
-use Rattle.mm_lists.specs.Memory.{list_in}
-use Rattle.mm_lists.proofs.Gathering.{put_first, same_any, fewer_left, tail_rises}
-use Rattle.mm_lists.proofs.memory.put_words.Goals as goal
+use Rattle.mm_tree.specs.KeywordLists.{list_in}
+use Rattle.mm_tree.proofs.Gathering.{put_first, same_any, fewer_left, tail_rises}
+use Rattle.mm_tree.proofs.keywords.put_words.Goals as goal
 
 pub loop-word-init : goal.loop-word-init
 loop-word-init c =
@@ -23,6 +22,7 @@ loop-word-init c =
       rises = subst (IsStrictlySortedBy (slice_cmp nat_cmp)) (sym items) c.in_ok-words.ensures.rises;
       left = λ w. ap (λ (t : Bool). list_in c.args.lists.now w ++ cond t (c.args.label.now ∷ []) [])
           (ap (list_any (bytes_eq w)) items ∙ same_any (own c.args.kind.now) c.in_ok-words.words c.in_ok-words.ensures.same w);
+      filled = λ f. f;
     }
 
 pub loop-word-preserved : goal.loop-word-preserved
@@ -37,6 +37,7 @@ loop-word-preserved c =
           let all = list_in c.args.lists.now w ++ cond (list_any (bytes_eq w) (own c.args.kind.now)) (c.args.label.now ∷ []) [] in
           put_first c.loop-word.lists c.put-in-loop-word.new.lists c.in-Some.word (into_iter_items c.next.new.self) c.args.label.now
           (subst (IsStrictlySortedBy (slice_cmp nat_cmp)) steps.0 c.loop-word.invariant.rises)
-          (subst (λ (l : Label). (v : Word) → list_in c.put-in-loop-word.new.lists v ≡ list_in c.loop-word.lists v ++ cond (bytes_eq v c.in-Some.word) (l ∷ []) []) c.in_ok-copy.ensures c.in_ok-put.ensures) w all
-          (subst (λ (ws : List Word). list_in c.loop-word.lists w ++ cond (list_any (bytes_eq w) ws) (c.args.label.now ∷ []) [] ≡ all) steps.0 (c.loop-word.invariant.left w));
+          (subst (λ (l : Label). (v : List ℕ) → list_in c.put-in-loop-word.new.lists v ≡ list_in c.loop-word.lists v ++ cond (bytes_eq v c.in-Some.word) (l ∷ []) []) c.in_ok-copy.ensures c.in_ok-put.ensures.lists) w all
+          (subst (λ (ws : List (List ℕ)). list_in c.loop-word.lists w ++ cond (list_any (bytes_eq w) ws) (c.args.label.now ∷ []) [] ≡ all) steps.0 (c.loop-word.invariant.left w));
+      filled = λ f. c.in_ok-put.ensures.filled (c.loop-word.invariant.filled f);
     }

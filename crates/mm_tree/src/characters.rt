@@ -1,12 +1,12 @@
-//! Which characters may stand in a document and in a name, and which are white space.
+//! Which characters may stand in a document and in a name, which are white space, and what is a name (XML 1.0,
+//! fifth edition).
 
 ghost use Rattle.std.specs.Prelude.{◌≡◌};
-ghost use Rattle.std.specs.List.{list_all, prefix_len};
-ghost use Rattle.mm_tree.specs.Characters.{is_from as between_is, is_char as char_is, is_space as space_is, is_name_start as name_start_is, is_name_char as name_char_is};
+ghost use Rattle.std.specs.List.{list_all};
 ghost use Rattle.std.specs.Str.{chars};
-ghost use Rattle.mm_xml.specs.Inside.Lexing.{span};
+ghost use Rattle.mm_tree.specs.Characters.{is_from as between_is, is_char as char_is, is_space as space_is, is_name_start as name_start_is, is_name_char as name_char_is, is_name as name_is, is_short_name as short_name_is};
 
-use crate::text::split_after;
+use crate::plain::NAME_LIMIT;
 
 pub fn between(low: u32, high: u32, c: char) -> bool
     ensures { result ≡ between_is low high c }
@@ -79,30 +79,26 @@ pub fn is_name_char(c: char) -> bool
         || between(8255, 8256, c)
 }
 
-fn name_len(text: &str) -> usize
-    ensures { result ≡ prefix_len name_char_is (chars text.now) }
+fn are_name_chars(text: &str) -> bool
+    ensures { result ≡ list_all name_char_is (chars text.now) }
 {
-    text.chars().take_while(|c| is_name_char(*c)).count()
+    text.chars().all(|c| is_name_char(c))
 }
 
-fn space_len(text: &str) -> usize
-    ensures { result ≡ prefix_len space_is (chars text.now) }
+/// Name, production 5.
+pub fn is_name(text: &str) -> bool
+    ensures { result ≡ name_is (chars text.now) }
 {
-    text.chars().take_while(|c| is_space(*c)).count()
+    let mut characters = text.chars();
+    match characters.next() {
+        Some(c) => is_name_start(c) && are_name_chars(characters.as_str()),
+        None => false,
+    }
 }
 
-/// The characters of a name at the front, and those after them.
-pub fn name_span(text: &str) -> (&str, &str)
-    ensures front { chars result.0.now ≡ (span name_char_is (chars text.now)).0 }
-    ensures back { chars result.1.now ≡ (span name_char_is (chars text.now)).1 }
+/// The name of an element or of an attribute: no longer than the limit.
+pub fn is_short_name(name: &str) -> bool
+    ensures { result ≡ short_name_is (chars name.now) }
 {
-    split_after(name_len(text), text)
-}
-
-/// The white space at the front, and what comes after it.
-pub fn space_span(text: &str) -> (&str, &str)
-    ensures front { chars result.0.now ≡ (span space_is (chars text.now)).0 }
-    ensures back { chars result.1.now ≡ (span space_is (chars text.now)).1 }
-{
-    split_after(space_len(text), text)
+    is_name(name) && name.len() <= NAME_LIMIT
 }
