@@ -20,7 +20,7 @@ line_limit = 65536
 abbrev pub is_space : ℕ → Bool
 is_space b = b == 32
 
--- no control character: a byte from 20 on that isn't 7F
+-- no byte of a control character: one from 32 on that isn't 127
 abbrev pub is_printable : ℕ → Bool
 is_printable b = nat_le 32 b && not (b == 127)
 
@@ -92,7 +92,7 @@ line_by word rest =
 abbrev pub line_of_text : List ℕ → Option Line
 line_of_text text = line_by (first_word (before_spaces (after_spaces text))) (behind (before_spaces (after_spaces text)))
 
--- at most 65,536 bytes in UTF-8 without control characters
+-- UTF-8 without control characters, and no more bytes than the limit
 abbrev pub is_line_text : List ℕ → Bool
 is_line_text text = nat_le (length text) line_limit && (list_all is_printable text && is_utf8 text)
 

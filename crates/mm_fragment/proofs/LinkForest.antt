@@ -1,5 +1,5 @@
 -- The labels of a well-formed forest, and of the tree at a label.
-use Rattle.std.proofs.Common.{inl, inr, ◌≡◌, Bool, true, false, ◌||◌, cond, [], refl, ap, sym, subst, ◌∙◌, Some}
+use Rattle.std.proofs.Common.{inl, inr, ◌≡◌, Bool, true, false, ◌||◌, cond, List, [], ◌∷◌, ◌++◌, refl, ap, sym, subst, ◌∙◌, Some, append-nil}
 use Rattle.std.proofs.lemmas.Bool.{or_right}
 use Rattle.mm_label.specs.Label.{whole}
 use Rattle.mm_label.specs.Fronts.{Label, Front, Apart, Within}
@@ -10,7 +10,9 @@ use Rattle.mm_tree.specs.Edits.{found, has_label}
 use Rattle.mm_tree.specs.Formed.{Formed, node_label}
 use Rattle.mm_label.specs.Facts.Fronts.{front_refl}
 use Rattle.mm_label.specs.Facts.Order.{same_label, label_same, label_other}
+use Rattle.mm_tree.specs.Facts.Nodes.{Stands}
 use Rattle.mm_tree.specs.Facts.Places.{node_under, node_apart}
+use Rattle.mm_tree.specs.Facts.Runs.{subtree_run}
 use Rattle.mm_label.specs.Facts.Members.{within_joined, within_first, within_second}
 
 has_in : (f : Trees Labelled) (e : Labelled) → Within e (preorder f) → edits.has_node e.label f ≡ true
@@ -62,6 +64,29 @@ node_found y (node d inner rest) e u w = elim w [
     not_inside a true q = let k = in_has inner e.label q in absurd (a.1 (subst (Front d.label) k.2 (node_under node_label d.label inner k.0 u.1 k.1).0))
     not_inside a false q = refl
 
+-- ---- what is found
+
+some_same : (u v : Tree Labelled) → Some u ≡ Some v → u ≡ v
+some_same u v e = cc
+
+pub found_stands : (x : Label) (f : Trees Labelled) (t : Tree Labelled) → found x f ≡ Some t → Stands t.0 t.1 f × (t.0.label ≡ x)
+found_stands x none t h = absurd cc
+found_stands x (node e inner rest) t h = by (has_label x e) refl (edits.has_node x inner) h (found_stands x inner t) (found_stands x rest t)
+  where
+    by : (a : Bool) → has_label x e ≡ a → (b : Bool) → cond a (Some (e, inner)) (cond b (found x inner) (found x rest)) ≡ Some t → (found x inner ≡ Some t → Stands t.0 t.1 inner × (t.0.label ≡ x))
+        → (found x rest ≡ Some t → Stands t.0 t.1 rest × (t.0.label ≡ x)) → Stands t.0 t.1 (node e inner rest) × (t.0.label ≡ x)
+    by true k b h p q = subst (λ (u : Tree Labelled). Stands u.0 u.1 (node e inner rest) × (u.0.label ≡ x)) (some_same (e, inner) t h) (inl (refl, refl), same_label e.label x k)
+    by false k true h p q = let r = p h in (inr (inl r.0), r.1)
+    by false k false h p q = let r = q h in (inr (inr r.0), r.1)
+
+-- a node of well-formed trees with its children is a well-formed tree
+stands_formed : (y : Label) (d : Labelled) (low f : Trees Labelled) → whole y ≡ y → Formed node_label y f → Stands d low f → (up : Label) × (whole up ≡ up) × Formed node_label up (one (d, low))
+stands_formed y d low none v u h = absurd h
+stands_formed y d low (node e inner rest) v u h = elim h [
+  | inl k ↦ (y, v, subst (λ (n : Labelled). Formed node_label y (node n low none)) (sym k.0) (subst (λ (i : Trees Labelled). Formed node_label y (node e i none)) (sym k.1) (u.0, u.1, tt, tt)))
+  | inr k ↦ elim k [ inl q ↦ stands_formed e.label d low inner u.0.is_whole u.1 q | inr q ↦ stands_formed y d low rest v u.3 q ]
+]
+
 -- what is found has the label, and lies in the forest with all its nodes
 pub record IsFound (x : Label) (f : Trees Labelled) (t : Tree Labelled) : Type 0 where
   pub is : t.0.label ≡ x
@@ -70,27 +95,16 @@ pub record IsFound (x : Label) (f : Trees Labelled) (t : Tree Labelled) : Type 0
   pub formed : Formed node_label up (one t)
   pub inside : (e : Labelled) → Within e (preorder (one t)) → Within e (preorder f)
 
-some_same : (u v : Tree Labelled) → Some u ≡ Some v → u ≡ v
-some_same u v e = cc
-
 pub found_is : (y x : Label) (f : Trees Labelled) (t : Tree Labelled) → whole y ≡ y → Formed node_label y f → found x f ≡ Some t → IsFound x f t
-found_is y x none t v u h = absurd cc
-found_is y x (node e inner rest) t v u h = by (has_label x e) refl (edits.has_node x inner) h (λ k. found_is e.label x inner t u.0.is_whole u.1 k) (λ k. found_is y x rest t v u.3 k)
-  where
-    inner_in : (d : Labelled) → Within d (preorder inner) → Within d (preorder (node e inner rest))
-    inner_in d w = inr (within_first d (preorder inner) (preorder rest) w)
-
-    here : has_label x e ≡ true → IsFound x (node e inner rest) (e, inner)
-    here k = record {
-      is = same_label e.label x k;
-      up = y;
-      whole_up = v;
-      formed = (u.0, u.1, tt, tt);
-      inside = λ d w. elim w [ inl q ↦ inl q | inr q ↦ elim (within_joined d (preorder inner) [] q) [ inl z ↦ inner_in d z | inr z ↦ absurd z ] ];
+found_is y x f t v u h =
+    let s = found_stands x f t h in
+    let p = stands_formed y t.0 t.1 f v u s.0 in
+    let r = subtree_run node_label y t.0 t.1 f u s.0 in
+    record {
+      is = s.1;
+      up = p.0;
+      whole_up = p.1;
+      formed = p.2;
+      inside = λ d w. subst (Within d) (sym r.is) (within_second d r.front ((t.0 ∷ preorder t.1) ++ r.back)
+          (within_first d (t.0 ∷ preorder t.1) r.back (subst (Within d) (ap (λ (z : List Labelled). t.0 ∷ z) (append-nil (preorder t.1))) w)));
     }
-
-    by : (a : Bool) → has_label x e ≡ a → (b : Bool) → cond a (Some (e, inner)) (cond b (found x inner) (found x rest)) ≡ Some t → (found x inner ≡ Some t → IsFound x inner t) → (found x rest ≡ Some t → IsFound x rest t)
-        → IsFound x (node e inner rest) t
-    by true k b h p q = subst (IsFound x (node e inner rest)) (some_same (e, inner) t h) (here k)
-    by false k true h p q = let r = p h in record { is = r.is; up = r.up; whole_up = r.whole_up; formed = r.formed; inside = λ d w. inner_in d (r.inside d w) }
-    by false k false h p q = let r = q h in record { is = r.is; up = r.up; whole_up = r.whole_up; formed = r.formed; inside = λ d w. inr (within_second d (preorder inner) (preorder rest) (r.inside d w)) }

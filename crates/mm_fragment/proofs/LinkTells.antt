@@ -6,8 +6,7 @@ use Rattle.std.proofs.lemmas.Bool.{or_cases, or_left, or_right}
 use Rattle.mm_label.specs.Fronts.{Label, Front, Within}
 use Rattle.mm_tree.specs.Trees.{Trees, Tree, none, node}
 use Rattle.mm_tree.specs.Numbering.{Labelled}
-use Rattle.mm_tree.specs.Edits as edits
-use Rattle.mm_tree.specs.Edits.{found, has_label}
+use Rattle.mm_tree.specs.Edits.{found}
 use Rattle.mm_tree.specs.Fragments.{named}
 use Rattle.mm_tree.specs.Search.{Worded, worded, has, holds, is_full, slca, worded_as}
 use Rattle.mm_tree.specs.Elca.{elca}
@@ -20,11 +19,12 @@ use Rattle.mm_fragment.specs.Telling.{SmallestTell, ExclusiveTell}
 use Rattle.mm_label.specs.Facts.Lists.{own_cases, own_of}
 use Rattle.mm_label.specs.Facts.Members.{contains_of, within_of, within_joined, within_first, within_second}
 use Rattle.mm_fragment.proofs.Subtree.{apart_common}
+use Rattle.mm_fragment.proofs.LinkForest.{found_stands}
 use Rattle.mm_fragment.proofs.Open.{bares_named}
 use Rattle.mm_label.specs.Facts.Fronts.{front_refl, front_trans, front_antisym}
 use Rattle.mm_tree.specs.Facts.Formed.{formed}
 use Rattle.mm_fragment.proofs.LinkPaths.{Word}
-use Rattle.mm_fragment.proofs.MarkedOpen.{full_above}
+use Rattle.mm_tree.specs.Facts.Full.{full_above}
 
 -- ---- nodes with their children
 
@@ -134,18 +134,6 @@ listed_full query x (node e inner rest) h = elim (within_joined x (cond (is_full
 
 -- ---- the children of a node
 
-some_same : (u v : Tree Labelled) → Some u ≡ Some v → u ≡ v
-some_same u v e = cc
-
-found_stands : (x : Label) (f : Trees Labelled) (t : Tree Labelled) → found x f ≡ Some t → Stands t.0 t.1 f
-found_stands x none t h = absurd cc
-found_stands x (node e inner rest) t h = by (has_label x e) (edits.has_node x inner) h (found_stands x inner t) (found_stands x rest t)
-  where
-    by : (a b : Bool) → cond a (Some (e, inner)) (cond b (found x inner) (found x rest)) ≡ Some t → (found x inner ≡ Some t → Stands t.0 t.1 inner) → (found x rest ≡ Some t → Stands t.0 t.1 rest) → Stands t.0 t.1 (node e inner rest)
-    by true b h p q = let s = some_same (e, inner) t h in inl (sym (ap (λ (u : Tree Labelled). u.0) s), sym (ap (λ (u : Tree Labelled). u.1) s))
-    by false true h p q = inr (inl (p h))
-    by false false h p q = inr (inr (q h))
-
 all_tell : (query : List Word) (answers : List Label) (s : Trees Labelled)
     → ((e : Labelled) (inner : Trees Labelled) → Stands e inner s → (is_full query (worded_as e) (worded inner) ≡ true) ↔ Reaches e.label answers) → TellsAll answers query (named s)
 all_tell query answers none h = tt
@@ -166,7 +154,7 @@ answers_tell query f answers u reached full e inner s = (
 )
 
 below_root : (x : Label) (f : Trees Labelled) (t : Tree Labelled) → found x f ≡ Some t → (e : Labelled) (inner : Trees Labelled) → Stands e inner t.1 → Stands e inner f
-below_root x f t h e inner s = stands_below e t.0 inner t.1 f s (found_stands x f t h)
+below_root x f t h e inner s = stands_below e t.0 inner t.1 f s (found_stands x f t h).0
 
 pub smallest_tell : AnswersAreSmallest → FullNodesHaveAnswers → SmallestTell
 smallest_tell are have query f w x t h =

@@ -1,14 +1,14 @@
 -- The siblings that aren't full, and what is marked below them.
-use Rattle.std.proofs.Common.{inl, inr, ◌≡◌, ℕ, Bool, true, false, not, ◌&&◌, ◌||◌, cond, List, [], ◌∷◌, ◌++◌, refl, ap, ap₂, sym, subst, ◌∙◌}
+use Rattle.std.proofs.Common.{inl, inr, ◌≡◌, ℕ, Bool, true, false, not, ◌&&◌, cond, List, [], ◌∷◌, ◌++◌, refl, ap, ap₂, sym, subst, ◌∙◌}
 use Rattle.std.specs.List.{list_any}
-use Rattle.std.proofs.Math.Bool.{or-true}
-use Rattle.std.proofs.lemmas.Bool.{or_parts, and_parts, and_from}
+use Rattle.std.proofs.lemmas.Bool.{or_parts}
 use Rattle.mm_label.specs.Fronts.{Label, Within}
 use Rattle.mm_label.specs.Facts.Members.{in_within}
 use Rattle.mm_tree.specs.Facts.Places.{preorder_each}
+use Rattle.mm_tree.specs.Facts.Full.{none_below}
 use Rattle.mm_tree.specs.Facts.Subforests.{Thins, thins_formed, thins_within, formed_each}
 use Rattle.mm_tree.specs.Trees.{Trees, none, node, preorder, each}
-use Rattle.mm_tree.specs.Search.{Worded, has, holds, is_full, some_full}
+use Rattle.mm_tree.specs.Search.{is_full, some_full}
 use Rattle.mm_tree.specs.Fragments.{Named, bare, bares, row_of, some, less}
 use Rattle.mm_tree.specs.Formed.{Formed, name_label}
 use Rattle.mm_fragment.specs.Inside.Marked.{Rowed, marked, rows_in, pruned}
@@ -16,43 +16,6 @@ use Rattle.mm_fragment.specs.Matching.{outside_full}
 
 abbrev pub row_label : Rowed → Label
 row_label m = m.entry.label
-
--- ---- a node with a full child is full
-
-pub full_above : (query : List (List ℕ)) (e d : Worded) (inner low : Trees Worded) → ((w : List ℕ) → (has d w || holds w low) ≡ true → (has e w || holds w inner) ≡ true)
-    → is_full query d low ≡ true → is_full query e inner ≡ true
-full_above [] e d inner low up h = refl
-full_above (w ∷ query) e d inner low up h =
-    let b = and_parts (has d w || holds w low) (is_full query d low) h in
-    and_from (has e w || holds w inner) (is_full query e inner) (up w b.0) (full_above query e d inner low up b.1)
-
-first_holds : (w : List ℕ) (d : Worded) (low rest : Trees Worded) → (has d w || holds w low) ≡ true → holds w (node d low rest) ≡ true
-first_holds w d low rest = by (has d w) (holds w low)
-  where
-    by : (a b : Bool) → (a || b) ≡ true → (a || (b || holds w rest)) ≡ true
-    by true b e = refl
-    by false true e = refl
-    by false false e = absurd cc
-
-above_some : (query : List (List ℕ)) (e : Worded) (inner trees : Trees Worded) → ((w : List ℕ) → holds w trees ≡ true → (has e w || holds w inner) ≡ true)
-    → some_full query trees ≡ true → is_full query e inner ≡ true
-above_some query e inner none up h = absurd cc
-above_some query e inner (node d low rest) up h =
-    by (is_full query d low) refl h (above_some query e inner rest (λ w a. up w (ap (λ b. has d w || (holds w low || b)) a ∙ ap (λ b. has d w || b) (or-true (holds w low)) ∙ or-true (has d w))))
-  where
-    by : (b : Bool) → is_full query d low ≡ b → (b || some_full query rest) ≡ true → (some_full query rest ≡ true → is_full query e inner ≡ true) → is_full query e inner ≡ true
-    by true f k later = full_above query e d inner low (λ w a. up w (first_holds w d low rest a)) f
-    by false f k later = later k
-
-full_of_child : (query : List (List ℕ)) (e : Worded) (inner : Trees Worded) → some_full query inner ≡ true → is_full query e inner ≡ true
-full_of_child query e inner = above_some query e inner inner (λ w a. ap (λ b. has e w || b) a ∙ or-true (has e w))
-
-none_below : (query : List (List ℕ)) (e : Worded) (inner : Trees Worded) → is_full query e inner ≡ false → some_full query inner ≡ false
-none_below query e inner f = by (some_full query inner) refl
-  where
-    by : (t : Bool) → some_full query inner ≡ t → some_full query inner ≡ false
-    by true h = let k = full_of_child query e inner h in absurd cc
-    by false h = h
 
 -- ---- without the full ones among the siblings
 

@@ -24,8 +24,8 @@ before [] = pos 1 ∷ []
 before (f ∷ fs) = beneath f ∷ []
 
 -- between neighbours that go on with a and l, and with b and r, where a is below b: the least odd
--- number between a and b; else the even number between two odd ones, and 1; else a number of b's
--- before r where a is odd, and one of a's after l where a is even
+-- number between a and b; else the even number between two odd ones, and 1; else b and what comes
+-- before r where a is odd, and a and what comes after l where a is even
 abbrev pub apart : ℤ → List ℤ → ℤ → List ℤ → List ℤ
 apart a l b r =
     if int_lt (above a) b then above a ∷ []

@@ -17,7 +17,7 @@ use Rattle.mm_tree.specs.Owners.{OwnOccurrence, IsExclusive}
 use Rattle.mm_tree.specs.Facts.Formed.{Parts, parts}
 use Rattle.mm_tree.proofs.OrderLaws.{Under}
 use Rattle.mm_tree.proofs.WayLaws.{labels_of}
-use Rattle.mm_tree.proofs.SearchFacts.{full_of_child}
+use Rattle.mm_tree.specs.Facts.Full.{full_of_child}
 use Rattle.mm_tree.proofs.SmallestLaws.{seen, full_cases, full_here, full_inside, full_behind, full_root, full_under, here_under, inside_under, behind_under, not_behind, not_above, below, true_false}
 use Rattle.mm_tree.proofs.OwnerLaws.{mine, mine_is, mine_only, owner_full}
 

@@ -5,14 +5,7 @@ use Rattle.std.proofs.lemmas.Bool.{or_parts}
 use Rattle.mm_tree.specs.Trees.{Trees, none, node}
 use Rattle.mm_tree.specs.Search.{is_full, some_full}
 use Rattle.mm_tree.specs.Fragments.{Named, bare, bares, row_of, some, less, rows_of, all_rows, shown, contributors, relevant}
-use Rattle.mm_tree.proofs.SearchFacts.{full_of_child}
-
-none_below : (query : List (List ℕ)) (e : Named) (inner : Trees Named) → is_full query (bare e) (bares inner) ≡ false → some_full query (bares inner) ≡ false
-none_below query e inner f = by (some_full query (bares inner)) refl
-  where
-    by : (t : Bool) → some_full query (bares inner) ≡ t → some_full query (bares inner) ≡ false
-    by true h = let k = full_of_child query (bare e) (bares inner) h in absurd cc
-    by false h = h
+use Rattle.mm_tree.specs.Facts.Full.{none_below}
 
 rows_are : (query : List (List ℕ)) (f : Trees Named) → some_full query (bares f) ≡ false → rows_of query f ≡ all_rows query f
 rows_are query none h = refl
@@ -24,7 +17,7 @@ kept_are : (query : List (List ℕ)) (all : List (List Bool)) (f : Trees Named) 
 kept_are query all none h = refl
 kept_are query all (node e inner rest) h =
     let n = or_parts (is_full query (bare e) (bares inner)) (some_full query (bares rest)) h in
-    let b = none_below query e inner n.0 in
+    let b = none_below query (bare e) (bares inner) n.0 in
     let test = some (row_of query e inner) && not (list_any (less (row_of query e inner)) all) in
     ap (λ (t : Bool). cond (not t && test) (node (shown query e) (contributors query (rows_of query inner) inner) (contributors query all rest)) (contributors query all rest)) n.0
     ∙ ap₂ (λ (i r : Trees Named). cond test (node (shown query e) i r) r)

@@ -11,8 +11,8 @@ use Rattle.mm_tree.specs.Search.{Worded, own, worded, has, holds, is_full, some_
 use Rattle.mm_tree.specs.Inside.Searching.{either, held, own_answer, worded_node}
 use Rattle.mm_tree.proofs.FlagFacts.{either_tests, either_twice, either_never, or_false, or_assoc}
 use Rattle.std.proofs.lemmas.List.{drop_all}
-use Rattle.std.proofs.lemmas.Bool.{or_parts, and_from, and_parts}
-use Rattle.std.proofs.Math.Bool.{or-true}
+use Rattle.std.proofs.lemmas.Bool.{or_parts}
+use Rattle.mm_tree.specs.Facts.Full.{full_of_child}
 use Rattle.mm_tree.proofs.PlaceFacts.{node_of_out}
 
 -- ---- full nodes
@@ -21,37 +21,6 @@ use Rattle.mm_tree.proofs.PlaceFacts.{node_of_out}
 pub all_held : (query : List (List ℕ)) (e : Worded) (inner : Trees Worded) → list_all (λ flag. flag) (held_by query e inner) ≡ is_full query e inner
 all_held [] e inner = refl
 all_held (w ∷ query) e inner = ap (λ b. (has e w || holds w inner) && b) (all_held query e inner)
-
--- a node that holds each word that a full one holds is full
-full_above : (query : List (List ℕ)) (e d : Worded) (inner below : Trees Worded) → ((w : List ℕ) → (has d w || holds w below) ≡ true → (has e w || holds w inner) ≡ true)
-    → is_full query d below ≡ true → is_full query e inner ≡ true
-full_above [] e d inner below up h = refl
-full_above (w ∷ query) e d inner below up h =
-    let b = and_parts (has d w || holds w below) (is_full query d below) h in
-    and_from (has e w || holds w inner) (is_full query e inner) (up w b.0) (full_above query e d inner below up b.1)
-
-first_holds : (w : List ℕ) (d : Worded) (below rest : Trees Worded) → (has d w || holds w below) ≡ true → holds w (node d below rest) ≡ true
-first_holds w d below rest = by_test (has d w) (holds w below)
-  where
-    by_test : (a b : Bool) → (a || b) ≡ true → (a || (b || holds w rest)) ≡ true
-    by_test true b e = refl
-    by_test false true e = refl
-    by_test false false e = absurd cc
-
--- one of whose siblings is full
-above_some : (query : List (List ℕ)) (e : Worded) (inner trees : Trees Worded) → ((w : List ℕ) → holds w trees ≡ true → (has e w || holds w inner) ≡ true)
-    → some_full query trees ≡ true → is_full query e inner ≡ true
-above_some query e inner none up h = absurd cc
-above_some query e inner (node d below rest) up h =
-    by_test (is_full query d below) refl h (above_some query e inner rest (λ w a. up w (ap (λ b. has d w || (holds w below || b)) a ∙ ap (λ b. has d w || b) (or-true (holds w below)) ∙ or-true (has d w))))
-  where
-    by_test : (b : Bool) → is_full query d below ≡ b → (b || some_full query rest) ≡ true → (some_full query rest ≡ true → is_full query e inner ≡ true) → is_full query e inner ≡ true
-    by_test true f k later = full_above query e d inner below (λ w a. up w (first_holds w d below rest a)) f
-    by_test false f k later = later k
-
--- a node with a full child is full
-pub full_of_child : (query : List (List ℕ)) (e : Worded) (inner : Trees Worded) → some_full query inner ≡ true → is_full query e inner ≡ true
-full_of_child query e inner = above_some query e inner inner (λ w a. ap (λ b. has e w || b) a ∙ or-true (has e w))
 
 -- ---- answers
 

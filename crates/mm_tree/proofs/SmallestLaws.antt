@@ -18,7 +18,8 @@ use Rattle.mm_tree.specs.Smallest.{full_nodes, IsSmallest, HasAnswer}
 use Rattle.mm_tree.specs.Facts.Formed.{front_splits, Parts, parts}
 use Rattle.mm_tree.proofs.OrderLaws.{Under, Each, Rise, rises_more, rise_behind, pairs_from, side_after}
 use Rattle.mm_tree.proofs.WayLaws.{before_irreflexive, one_segment, cancel, labels_of}
-use Rattle.mm_tree.proofs.SearchFacts.{full_of_child, part}
+use Rattle.mm_tree.proofs.SearchFacts.{part}
+use Rattle.mm_tree.specs.Facts.Full.{full_of_child}
 
 -- ---- members of lists
 

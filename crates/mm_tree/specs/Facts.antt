@@ -5,3 +5,4 @@ pub mod Subforests
 pub mod Nodes
 pub mod Runs
 pub mod Rebuild
+pub mod Full

@@ -24,21 +24,22 @@ segment_below parent label = drop (length parent) label
 abbrev pub is_before : List ℤ → List ℤ → Bool
 is_before a b = is_lt (slice_cmp int_cmp a b)
 
--- above the segment on the left, if there is one
+-- the segment comes after the one on the left, if there is one
 abbrev pub rises : Option (List ℤ) → List ℤ → Bool
 rises None segment = true
 rises (Some left) segment = is_before left segment
 
--- the parent's label and one segment, above the one on the left
+-- the parent's label and one segment, which comes after the one on the left
 abbrev pub is_child_label : List ℤ → Option (List ℤ) → List ℤ → Bool
 is_child_label parent left label = starts_with int_eq label parent && (is_segment (segment_below parent label) && rises left (segment_below parent label))
 
--- each sibling's label is its parent's and one segment, the segments rise, and so it is below each of them
+-- each sibling's label is its parent's and one segment, the segments rise, and the same holds for the children of each
 abbrev pub are_labelled : List ℤ → Option (List ℤ) → Trees Labelled → Bool
 are_labelled parent left none = true
 are_labelled parent left (node e inner rest) =
     is_child_label parent left e.label && (are_labelled e.label None inner && are_labelled parent (Some (segment_below parent e.label)) rest)
 
+-- these siblings are elements, whatever lies below them
 abbrev pub are_elements : Trees Labelled → Bool
 are_elements none = true
 are_elements (node e inner rest) = is_element e.kind && are_elements rest

@@ -40,6 +40,7 @@ bares = each bare
 abbrev pub row_of : List (List ℕ) → Named → Trees Named → List Bool
 row_of query e inner = held_by query (bare e) (bares inner)
 
+-- the row has a word
 abbrev pub some : List Bool → Bool
 some row = list_any (λ flag. flag) row
 
@@ -49,6 +50,7 @@ subset [] other = true
 subset (a ∷ row) [] = true
 subset (a ∷ row) (b ∷ other) = (not a || b) && subset row other
 
+-- the other has all that this row has, and more
 abbrev pub less : List Bool → List Bool → Bool
 less row other = subset row other && not (subset other row)
 

@@ -46,6 +46,7 @@ number x t = (record { label = x; kind = t.0 }, number_from x 1 t.1)
 abbrev pub fits : List ℤ → Bool
 fits label = all_in_range label && nat_le (length (bytes_of label)) label_limit
 
+-- the node's label fits, whether it has children or not
 abbrev pub has_room : Labelled → Bool → Bool
 has_room e has_children = fits e.label
 

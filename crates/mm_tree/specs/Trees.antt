@@ -26,6 +26,7 @@ abbrev pub preorder : {A : Type 0} → Trees A → List A
 preorder none = []
 preorder (node a inner rest) = a ∷ preorder inner ++ preorder rest
 
+-- there is a node
 abbrev pub has_some : {A : Type 0} → Trees A → Bool
 has_some none = false
 has_some (node a inner rest) = true

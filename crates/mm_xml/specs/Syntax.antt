@@ -59,6 +59,7 @@ abbrev pub if_named : Option ℕ → List ℕ
 if_named None = []
 if_named (Some c) = c ∷ []
 
+-- the characters that a part of a text stands for
 abbrev pub meant : Part → List ℕ
 meant (Literal c) = c ∷ []
 meant (Reference body) = if_named (referred body)
@@ -86,6 +87,7 @@ spelled_quoted q = q.quote ∷ (q.text ++ q.quote ∷ [])
 abbrev pub is_quoted : (ℕ → Bool) → Quoted → Bool
 is_quoted p q = is_quote q.quote && list_all (λ c. p c && not (c == q.quote)) q.text
 
+-- PubidChar (13)
 abbrev pub is_public : ℕ → Bool
 is_public c = (c == 32) || (c == 13) || (c == 10) || is_from 97 122 c || is_from 65 90 c || is_from 39 59 c || (c == 33) || (c == 61) || (c == 63) || (c == 64) || (c == 35) || (c == 36) || (c == 95) || (c == 37)
 
@@ -120,7 +122,7 @@ spelled_setting word s = s.gap ++ (word ++ (s.before ++ (61 ∷ (s.after ++ spel
 abbrev pub is_setting : (List ℕ → Bool) → Setting → Bool
 is_setting test s = is_gap s.gap && (list_all is_space s.before && (list_all is_space s.after && (is_quoted is_char s.value && test s.value.text)))
 
--- one or more
+-- one or more decimal digits
 abbrev pub are_digits : List ℕ → Bool
 are_digits [] = false
 are_digits (c ∷ cs) = list_all (is_from 48 57) (c ∷ cs)
@@ -212,6 +214,7 @@ is_token (Start empty name attributes gap) = is_short_name name && (list_all is_
 is_token (Close name gap) = is_short_name name && list_all is_space gap
 is_token (Doctype gap name ext after) = is_gap gap && (is_name name && (is_external ext && list_all is_space after))
 
+-- what ends a start tag, or an empty-element tag
 abbrev pub ending : Bool → List ℕ
 ending empty = if empty then 47 ∷ 62 ∷ [] else 62 ∷ []
 
