@@ -1,3 +1,4 @@
 -- What follows from the definitions, for the proofs of the crates above.
 pub mod Sorting
 pub mod InRange
+pub mod Moments
