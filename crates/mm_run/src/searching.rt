@@ -1,12 +1,12 @@
 // Searches.
-ghost use Rattle.std.specs.Prelude.{◌≡◌, ◌≤◌, ◌+◌, ◌++◌, ◌↔◌, IfErr, IfOk, OnOk, IsTrue, map};
+ghost use Rattle.std.specs.Prelude.{◌≡◌, ◌≤◌, ◌+◌, ◌++◌, IfOk, OnOk, IsTrue, map};
 ghost use Rattle.mm_tree.specs.Trees.{Trees};
 ghost use Rattle.mm_tree.specs.Forests.{is_well_formed};
 ghost use Rattle.mm_tree.specs.Numbering.{Labelled, forest_of};
 ghost use Rattle.mm_tree.specs.Edits.{found};
 ghost use Rattle.mm_tree.specs.Hits.{name_at, hits_of};
 ghost use Rattle.mm_tree.specs.Fragments.{fragment_tree};
-ghost use Rattle.mm_lists.specs.Causes.{Caused, IsSound};
+ghost use Rattle.mm_lists.specs.Leaves.{Leaves};
 ghost use Rattle.mm_command.specs.Replies.{reply_text};
 ghost use Rattle.mm_run.specs.Answers.{AnswersSearch, fragment_at, fragments_of, found_text, roots};
 ghost use Rattle.mm_run.specs.Steps.{find_cost, fragment_cost, fragments_cost, roots_cost, search_cost};
@@ -67,9 +67,7 @@ fn push_fragment<X: Lists, L: Ledger>(
 ) -> Result<(), Fault>
     ensures value { X.stands lists.old (forest_of forest.now) → AreTold query.now (forest_of forest.now) labels.now
         → OnOk result (map fragment_tree fragments.new ≡ map fragment_tree fragments.old ++ fragment_at query.now (found root.now (forest_of forest.now))) }
-    ensures kept { (f : Trees Labelled) → X.stands lists.old f ↔ X.stands lists.new f }
-    ensures cause { Caused (X.fault_count lists.old) (X.fault_count lists.new) (X.spent lists.old) (X.spent lists.new) result }
-    ensures sound { (f : Trees Labelled) → X.stands lists.old f → IfErr result IsSound }
+    ensures leaves { Leaves X.stands X.same_ground X.fault_count X.spent lists.old lists.new result }
     ensures cost { X.stands lists.old (forest_of forest.now) → AreTold query.now (forest_of forest.now) labels.now
         → steps.new ≤ steps.old + fragment_cost query.now (found root.now (forest_of forest.now)) }
 {
@@ -92,8 +90,7 @@ fn fragments_of<X: Lists, L: Ledger>(
 ) -> Result<Fragments, Fault>
     ensures value { X.stands lists.old (forest_of forest.now) → AreTold query.now (forest_of forest.now) labels.now
         → IfOk result (λ fs. map fragment_tree fs ≡ fragments_of query.now (forest_of forest.now) labels.now) }
-    ensures cause { Caused (X.fault_count lists.old) (X.fault_count lists.new) (X.spent lists.old) (X.spent lists.new) result }
-    ensures sound { (f : Trees Labelled) → X.stands lists.old f → IfErr result IsSound }
+    ensures leaves { Leaves X.stands X.same_ground X.fault_count X.spent lists.old lists.new result }
     ensures cost { X.stands lists.old (forest_of forest.now) → AreTold query.now (forest_of forest.now) labels.now
         → steps.new ≤ steps.old + fragments_cost query.now (forest_of forest.now) labels.now }
 {
@@ -122,9 +119,7 @@ fn roots<X: Lists, L: Ledger>(
     steps: &mut Steps<L>,
 ) -> Result<Items<Label>, Fault>
     ensures value { (f : Trees Labelled) → IsTrue (is_well_formed f) → X.stands lists.old f → IfOk result (λ labels. labels ≡ roots find query.now f) }
-    ensures kept { (f : Trees Labelled) → X.stands lists.old f ↔ X.stands lists.new f }
-    ensures cause { Caused (X.fault_count lists.old) (X.fault_count lists.new) (X.spent lists.old) (X.spent lists.new) result }
-    ensures sound { (f : Trees Labelled) → X.stands lists.old f → IfErr result IsSound }
+    ensures leaves { Leaves X.stands X.same_ground X.fault_count X.spent lists.old lists.new result }
     ensures cost { (f : Trees Labelled) → X.stands lists.old f → steps.new ≤ steps.old + roots_cost find query.now f }
 {
     match find {
@@ -143,8 +138,7 @@ fn found<X: Lists, L: Ledger>(
     steps: &mut Steps<L>,
 ) -> Result<Reply, Fault>
     ensures value { X.stands lists.old (forest_of forest.now) → IfOk result (λ reply. reply_text reply ≡ found_text find query.now (forest_of forest.now) (roots find query.now (forest_of forest.now))) }
-    ensures cause { Caused (X.fault_count lists.old) (X.fault_count lists.new) (X.spent lists.old) (X.spent lists.new) result }
-    ensures sound { X.stands lists.old (forest_of forest.now) → IfErr result IsSound }
+    ensures leaves { Leaves X.stands X.same_ground X.fault_count X.spent lists.old lists.new result }
     ensures cost { X.stands lists.old (forest_of forest.now) → steps.new ≤ steps.old + find_cost find query.now (forest_of forest.now) }
 {
     answers_are_smallest();
