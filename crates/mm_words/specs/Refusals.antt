@@ -1,11 +1,12 @@
 -- Why words are no query.
 use Rattle.std.specs.Prelude.{ℕ, ◌≡◌, refl, Bool, nat_lt, List, [], ◌∷◌, length, find, Option, Some, None, option_map, if◌then◌else◌, ⊤, codes}
+use Rattle.mm_words.specs.Words.{query_limit, word_limit}
 use Rattle.mm_words.specs.declared.error.QueryError.{QueryError}
 use Rattle.mm_words.specs.declared.error.QueryError.TheVariants as error
 
--- more than 256 bytes
+-- more bytes than a word has
 abbrev pub is_long : List ℕ → Bool
-is_long w = nat_lt 256 (length w)
+is_long w = nat_lt word_limit (length w)
 
 -- the length of the first that is too long
 abbrev pub first_long : List (List ℕ) → Option ℕ
@@ -15,7 +16,7 @@ first_long ws = option_map (λ w. length w) (find is_long ws)
 abbrev pub query_refusal : List (List ℕ) → Option QueryError
 query_refusal [] = Some error.NoWords
 query_refusal (w ∷ ws) =
-    if nat_lt 32 (length (w ∷ ws)) then Some (error.TooMany (length (w ∷ ws)))
+    if nat_lt query_limit (length (w ∷ ws)) then Some (error.TooMany (length (w ∷ ws)))
     else option_map error.TooLong (first_long (w ∷ ws))
 
 -- an error is this refusal, or says that memory ran out

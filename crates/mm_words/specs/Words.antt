@@ -15,9 +15,13 @@ folded bytes = encode_utf8_all (default_case_fold (chars bytes))
 abbrev pub has_no_zero : List ℕ → Bool
 has_no_zero bytes = list_all (λ b. not (b == 0)) bytes
 
--- 1 to 256 bytes, none of them 00
+-- the most bytes of a word
+abbrev pub word_limit : ℕ
+word_limit = 256
+
+-- at least one byte and no more than the limit, none of them 00
 abbrev pub is_word : List ℕ → Bool
-is_word bytes = nat_le 1 (length bytes) && nat_le (length bytes) 256 && has_no_zero bytes
+is_word bytes = nat_le 1 (length bytes) && nat_le (length bytes) word_limit && has_no_zero bytes
 
 -- the word that has these bytes, if one has
 abbrev pub word_in : List ℕ → Option (List ℕ)
@@ -80,10 +84,14 @@ abbrev pub are_distinct : List (List ℕ) → Bool
 are_distinct [] = true
 are_distinct (w ∷ ws) = not (list_any (bytes_eq w) ws) && are_distinct ws
 
--- 1 to 32 distinct words
+-- the most words of a query
+abbrev pub query_limit : ℕ
+query_limit = 32
+
+-- at least one word and no more than the limit, all distinct
 pub record IsQuery (ws : List (List ℕ)) : Type 0 where
   pub some : 1 ≤ length ws
-  pub few : length ws ≤ 32
+  pub few : length ws ≤ query_limit
   pub each : IsTrue (list_all is_word ws)
   pub distinct : IsTrue (are_distinct ws)
 

@@ -6,8 +6,8 @@ ghost use Rattle.mm_words.specs.Refusals.{first_long, query_refusal, IsRefusal};
 
 use crate::error::QueryError;
 use crate::fold::fold;
-use crate::queries::{MOST_WORDS, Query, of_words};
-use crate::word::{MOST_BYTES, Word, has_no_zero};
+use crate::queries::{QUERY_LIMIT, Query, of_words};
+use crate::word::{WORD_LIMIT, Word, has_no_zero};
 use mm_list::Items;
 use std::alloc::{AllocError, Global};
 use std::collections::BTreeSet;
@@ -46,7 +46,7 @@ fn first_long(words: &[&[u8]]) -> Option<u64>
     ensures { result ≡ first_long (map (λ w. w.now) words.now) }
 {
     for word in words {
-        if word.len() > MOST_BYTES {
+        if word.len() > WORD_LIMIT {
             return Some(word.len() as u64);
         }
     }
@@ -84,7 +84,7 @@ pub fn query(alloc: Global, text: &str) -> Result<Query, QueryError>
     if found == 0 {
         return Err(QueryError::NoWords);
     }
-    if found > MOST_WORDS {
+    if found > QUERY_LIMIT {
         return Err(QueryError::TooMany {
             found: found as u64,
         });

@@ -8,7 +8,7 @@ use mm_list::Items;
 use std::marker::Model;
 
 /// The most words of a query.
-pub const MOST_WORDS: usize = 32;
+pub const QUERY_LIMIT: usize = 32;
 
 /// A query, seen as its words: 1 to 32, all distinct.
 #[derive(Debug, Drop)]

@@ -15,7 +15,7 @@ use std::cmp::Ordering;
 use std::marker::Model;
 
 /// The most bytes of a word.
-pub const MOST_BYTES: usize = 256;
+pub const WORD_LIMIT: usize = 256;
 
 /// A word, seen as its bytes: 1 to 256, none of them 00. A word of at most 16 bytes, as most are, takes
 /// no memory of its own.
@@ -44,7 +44,7 @@ pub fn has_no_zero(bytes: &[u8]) -> bool
 fn is_word(bytes: &[u8]) -> bool
     ensures { result ≡ is_word bytes.now }
 {
-    1 <= bytes.len() && bytes.len() <= MOST_BYTES && has_no_zero(bytes)
+    1 <= bytes.len() && bytes.len() <= WORD_LIMIT && has_no_zero(bytes)
 }
 
 impl Word {

@@ -11,7 +11,7 @@ of_words-requires c =
     let size : vec_len c.in_ok-distinct.distinct ≡ length c.in_ok-distinct.distinct.items = search rules in
     made_query c.args.text.now c.in_ok-kept.kept found c.in_ok-words.words c.in_ok-kept.ensures (c.in_ok-distinct.ensures ∙ ap first_occurrences c.as_slice.ensures)
     (c.in_default.ensures ∙ ap (λ ws. first_long (map (λ w. w.now) ws)) c.as_slice-2.ensures.value) (c.in_ok-words.ensures ∙ ap (λ ws. filter is_word (map (λ w. w.now) ws)) c.as_slice-3.ensures.value)
-    c.len-found.result (c.len-found.ensures ∙ size ∙ sym (length-map c.in_ok-distinct.distinct.items (λ w. w.now))) c.if-found-eq0.false c.if-found-gt-MOST_WORDS.false
+    c.len-found.result (c.len-found.ensures ∙ size ∙ sym (length-map c.in_ok-distinct.distinct.items (λ w. w.now))) c.if-found-eq0.false c.if-found-gt-QUERY_LIMIT.false
 
 pub returns-clause-words : goal.returns-clause-words
 returns-clause-words c =
