@@ -40,25 +40,3 @@ impl<L: Ledger> Steps<L> {
         self.book.add(&mut self.share, 1);
     }
 }
-
-#[cfg(test)]
-mod tests {
-    use super::*;
-    use std::marker::Brand;
-
-    fn ticked<L: Ledger>(blank: Blank) -> u8
-        requires name { blank.name ≡ L.name }
-        requires parts { blank.parts ≡ L.parts }
-        requires some { 0 < blank.parts }
-    {
-        let mut steps = Steps::<L>::new(blank);
-        steps.tick();
-        1
-    }
-
-    #[test]
-    fn counts_at_a_brand(rt: HostRuntime) {
-        let count = ticked::<Brand>(Blank::new(1));
-        assert_eq!(rt; count, 1);
-    }
-}
