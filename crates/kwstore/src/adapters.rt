@@ -1,7 +1,10 @@
-// Readers and writers of std as sources and sinks. They tell nothing of the bytes that go through them.
+// Readers and writers of std as sources and sinks. These tell no bytes, since a reader or a writer of std may
+// begin to tell its own at any call. That they pass on what it tells is a clause of each call.
 ghost use Rattle.std.specs.Prelude.{◌≡◌, None};
 ghost use Rattle.std.specs.Io.{ReadsAtMost, WritesAtMost};
-ghost use Rattle.mm_host.specs.Moves.{Writes};
+ghost use Rattle.std.specs.Io.KnownBytes.{ReadConsumes, WriteAppends};
+ghost use Rattle.mm_host.specs.Causes.{HasCause};
+ghost use Rattle.mm_host.specs.Moves.{Reads, Writes};
 
 use mm_host::{Failed, Sink, Source};
 use std::io::{ErrorKind, Read, Write};
@@ -15,14 +18,18 @@ pub struct ReadSource<R: Read> {
 }
 
 impl<R: Read> ReadSource<R> {
-    pub fn new(reader: R) -> ReadSource<R> {
+    pub fn new(reader: R) -> ReadSource<R>
+        ensures reader { result.reader ≡ reader }
+        ensures faults { result.faults ≡ 0 }
+    {
         ReadSource { reader, faults: 0 }
     }
 }
 
 /// Reads, and again where a signal broke the read off.
 fn read_unbroken<R: Read>(reader: &mut R, into: &mut [u8]) -> Result<usize, Failed>
-    ensures { ReadsAtMost result into.new }
+    ensures bound { ReadsAtMost result into.new }
+    ensures passes { ReadConsumes (R.remaining reader.old) (R.remaining reader.new) result into.new }
 {
     for _ in 0..u64::MAX {
         match reader.read(into) {
@@ -39,7 +46,12 @@ impl<R: Read> Source for ReadSource<R> {
 
     ghost fault_count = { λ s. s.faults };
 
-    fn read(&mut self, into: &mut [u8]) -> Result<usize, Failed> {
+    fn read(&mut self, into: &mut [u8]) -> Result<usize, Failed>
+        ensures bound { ReadsAtMost result into.new }
+        ensures bytes { Reads None None result into.new }
+        ensures cause { HasCause self.old.faults self.new.faults result }
+        ensures passes { ReadConsumes (R.remaining self.old.reader) (R.remaining self.new.reader) result into.new }
+    {
         match read_unbroken(&mut self.reader, into) {
             Ok(count) => Ok(count),
             Err(failed) => {
@@ -63,7 +75,10 @@ pub struct WriteSink<W: Write> {
 }
 
 impl<W: Write> WriteSink<W> {
-    pub fn new(writer: W) -> WriteSink<W> {
+    pub fn new(writer: W) -> WriteSink<W>
+        ensures writer { result.writer ≡ writer }
+        ensures faults { result.faults ≡ 0 }
+    {
         WriteSink { writer, faults: 0 }
     }
 }
@@ -72,6 +87,7 @@ impl<W: Write> WriteSink<W> {
 fn write_unbroken<W: Write>(writer: &mut W, piece: &[u8]) -> Result<usize, Failed>
     ensures bound { WritesAtMost result piece.now }
     ensures bytes { Writes None None result piece.now }
+    ensures passes { WriteAppends (W.contents writer.old) (W.contents writer.new) result piece.now }
 {
     for _ in 0..u64::MAX {
         match writer.write(piece) {
@@ -88,7 +104,12 @@ impl<W: Write> Sink for WriteSink<W> {
 
     ghost fault_count = { λ s. s.faults };
 
-    fn write(&mut self, piece: &[u8]) -> Result<usize, Failed> {
+    fn write(&mut self, piece: &[u8]) -> Result<usize, Failed>
+        ensures bound { WritesAtMost result piece.now }
+        ensures bytes { Writes None None result piece.now }
+        ensures cause { HasCause self.old.faults self.new.faults result }
+        ensures passes { WriteAppends (W.contents self.old.writer) (W.contents self.new.writer) result piece.now }
+    {
         match write_unbroken(&mut self.writer, piece) {
             Ok(count) => Ok(count),
             Err(failed) => {
