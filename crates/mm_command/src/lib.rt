@@ -5,8 +5,6 @@ mod fragments;
 mod line;
 mod reading;
 mod reply;
-#[cfg(test)]
-mod tests;
 
 pub use line::{Find, Line, LineError};
 pub use reading::{read_line, without_return};

@@ -20,6 +20,3 @@ pub use mem_source::MemSource;
 pub use quiet::{QuietSink, QuietSource};
 pub use sink::{Sink, write_all};
 pub use source::Source;
-
-#[cfg(test)]
-mod tests;

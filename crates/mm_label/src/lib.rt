@@ -18,6 +18,3 @@ mod walk;
 pub use error::LabelError;
 pub use gap::between;
 pub use labels::{Label, child, lca};
-
-#[cfg(test)]
-mod tests;

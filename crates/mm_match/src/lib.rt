@@ -11,6 +11,3 @@ mod pruning;
 pub use mark::Mark;
 pub use paths::{at_or_below, masks};
 pub use pruning::prune;
-
-#[cfg(test)]
-mod tests;

@@ -16,7 +16,6 @@ pub mod OpenFacts
 pub mod SizeFacts
 pub mod EditFacts
 pub mod StayingLaws
-pub mod TestFacts
 pub mod FlagFacts
 pub mod SearchFacts
 pub mod SmallestLaws

@@ -208,8 +208,3 @@ impl Forest {
         replace_in(&mut self.trees, alloc, target, tree)
     }
 }
-
-#[cfg(test)]
-mod edit_tests;
-#[cfg(test)]
-mod tests;

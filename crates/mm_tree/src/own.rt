@@ -46,6 +46,3 @@ pub fn own_words(alloc: Global, kind: &Kind) -> Result<Items<Word>, AllocError>
     push_own_words(alloc, kind, &mut list)?;
     sorted_words(list)
 }
-
-#[cfg(test)]
-mod tests;

@@ -127,36 +127,3 @@ impl From<LabelError> for TreeError {
         }
     }
 }
-
-#[cfg(test)]
-mod tests {
-    use super::{Refusal, TreeError};
-    use std::test::Fail;
-
-    #[test]
-    fn numbers_and_words(rt: HostRuntime) -> Result<(), Fail> {
-        let table = [
-            (Refusal::Command, 10, "command"),
-            (Refusal::Size, 11, "size"),
-            (Refusal::Readonly, 12, "readonly"),
-            (Refusal::Label, 13, "label"),
-            (Refusal::Words, 14, "words"),
-            (Refusal::Many, 15, "many"),
-            (Refusal::Long, 16, "long"),
-            (Refusal::Absent, 17, "absent"),
-            (Refusal::Leaf, 18, "leaf"),
-            (Refusal::Xml, 19, "xml"),
-            (Refusal::Top, 20, "top"),
-            (Refusal::Deep, 21, "deep"),
-            (Refusal::Room, 22, "room"),
-            (Refusal::Full, 23, "full"),
-        ];
-        for (refusal, number, word) in table {
-            assert_eq!(rt; refusal.number(), number);
-            assert_eq!(rt; refusal.word(), word);
-        }
-        let shown = format!(in rt.alloc(); "{}", TreeError::Refused(Refusal::Top))?;
-        assert_eq!(rt; shown.as_str(), "refused: top");
-        Ok(())
-    }
-}

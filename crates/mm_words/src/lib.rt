@@ -16,6 +16,3 @@ pub use error::QueryError;
 pub use queries::Query;
 pub use texts::{push_name_words, push_text_words, sorted_words, words_of_name, words_of_text};
 pub use word::Word;
-
-#[cfg(test)]
-mod tests;

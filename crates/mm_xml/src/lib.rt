@@ -22,6 +22,3 @@ mod writer;
 pub use error::XmlError;
 pub use reader::read;
 pub use writer::write;
-
-#[cfg(test)]
-mod tests;

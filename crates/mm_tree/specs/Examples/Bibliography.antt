@@ -1,11 +1,11 @@
 -- A worked example: a bibliography of two books.
-use Rattle.std.specs.Prelude.{ℕ, ℤ, pos, List, [], ◌∷◌, ◌≤◌, ◌≡◌, true, refl, codes}
+use Rattle.std.specs.Prelude.{ℕ, ℤ, pos, List, [], ◌∷◌, ◌≡◌, true, refl, codes}
 use Rattle.std.specs.Char.{encode_utf8}
 use Rattle.std.specs.Str.{chars, is_utf8}
 use Rattle.mm_tree.specs.declared.plain.Kind.{Kind}
 use Rattle.mm_tree.specs.declared.plain.Kind.TheVariants.{Element, Words}
-use Rattle.mm_tree.specs.Trees.{Trees, none, node, Tree, one, every, nodes, levels}
-use Rattle.mm_tree.specs.Validity.{is_valid_kind, is_valid_node, is_valid_tree, pieces}
+use Rattle.mm_tree.specs.Trees.{Trees, none, node, Tree, one, nodes, levels}
+use Rattle.mm_tree.specs.Validity.{is_valid_kind, is_valid_tree}
 use Rattle.mm_tree.specs.Forests.{numbered_behind}
 use Rattle.mm_tree.specs.Order.{labels}
 
@@ -52,8 +52,3 @@ its_labels : labels (numbered_behind none bibliography)
     ∷ []
 unfolding bibliography label
 its_labels = refl
-
--- trees of valid nodes, which take at most so many pieces
-pub record Take (ts : Trees Kind) (most : ℕ) : Type 0 where
-  pub valid : every is_valid_node ts ≡ true
-  pub small : pieces ts ≤ most

@@ -1,4 +1,0 @@
-use Rattle.mm_search_tests.proofs.answers.smallest_agreed.Given as goal
-
-abbrev pub ghosts-smallest : goal.ghosts-smallest
-ghosts-smallest a = record { name = a.blank.name; parts = a.blank.parts }

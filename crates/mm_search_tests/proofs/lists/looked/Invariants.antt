@@ -1,4 +1,0 @@
-use Rattle.mm_search_tests.proofs.lists.looked.Given as goal
-
-abbrev pub ghosts-look : goal.ghosts-look
-ghosts-look a = record { name = a.blank.name; parts = a.blank.parts }
