@@ -1,12 +1,9 @@
 -- The fragments that a search finds.
 use Rattle.std.proofs.Common.{◌≡◌, ◌⊎◌, ℕ, ◌+◌, ◌≤◌, List, ap, sym, subst, ◌∙◌, arith, inl, inr}
-use Rattle.std.specs.Prelude.{ℤ, IsTrue, AllPairs}
-use Rattle.mm_label.specs.Label.{IsBefore}
+use Rattle.std.specs.Prelude.{ℤ, IsTrue}
 use Rattle.mm_tree.specs.Trees.{Trees, Tree}
 use Rattle.mm_tree.specs.Numbering.{Labelled}
 use Rattle.mm_tree.specs.Forests.{is_well_formed}
-use Rattle.mm_tree.specs.Search.{worded, slca}
-use Rattle.mm_tree.specs.Elca.{elca}
 use Rattle.mm_tree.specs.Smallest.{AnswersRise}
 use Rattle.mm_tree.specs.Owners.{ExclusiveRise}
 use Rattle.mm_tree.specs.Fragments.{Named}

@@ -1,5 +1,5 @@
 -- Each command has a reply.
-use Rattle.std.proofs.Common.{◌≡◌, ◌⊎◌, ℕ, ℤ, Bool, true, false, cond, List, [], ◌∷◌, length, Option, None, Some, option_map, refl, inl, inr, ⊎_elim}
+use Rattle.std.proofs.Common.{◌≡◌, ℕ, ℤ, Bool, true, false, cond, List, [], ◌∷◌, length, Option, None, Some, option_map, refl, inl, inr, ⊎_elim}
 use Rattle.std.specs.Prelude.{nat_lt}
 use Rattle.mm_tree.specs.declared.refusal.Refusal.{Refusal}
 use Rattle.mm_tree.specs.Trees.{Trees, Tree, one, nodes}
@@ -10,7 +10,7 @@ use Rattle.mm_command.specs.declared.line.Line.TheVariants as line
 use Rattle.mm_run.specs.Forms.{Form}
 use Rattle.mm_run.specs.declared.command.Payload.{Payload}
 use Rattle.mm_run.specs.declared.command.Payload.TheVariants as payload
-use Rattle.mm_run.specs.Answers.{Refuses, Shows, AnswersEdit, RefusesFirst, Planned, planned_load, planned_insert, planned_replace, tree_refusal, AnswersBytes, AnswersLabel, AnswersLoad, AnswersInsert, AnswersReplace, AnswersDelete, AnswersFound, AnswersShow, roots, found_text, AnswersQuery, AnswersLine, AnswersForm, Answers}
+use Rattle.mm_run.specs.Answers.{Refuses, Shows, AnswersEdit, RefusesFirst, Planned, planned_load, planned_insert, planned_replace, tree_refusal, AnswersBytes, AnswersLabel, AnswersLoad, AnswersInsert, AnswersReplace, AnswersFound, roots, found_text, AnswersQuery, AnswersLine, AnswersForm, Answers}
 use Rattle.mm_run.specs.Settled.{IsTreeOrNone, IsLabelOrNone, HasReply, bytes_in, label_in, label_asked}
 use Rattle.mm_words.specs.Words.{query_words}
 use Rattle.mm_words.specs.Refusals.{query_refusal, first_long}

@@ -1,6 +1,5 @@
 -- From the turns of a run to what it wrote.
-use Rattle.std.proofs.Common.{◌∷◌, ◌≡◌, ℕ, ◌+◌, ◌<◌, ◌≤◌, List, [], ◌++◌, length, take, refl, ap, sym, subst, ◌∙◌, ◌⊎◌, arith, length-append, append_assoc, append-nil, Some, None, Result, Ok, Err, inl, inr, ⊎_elim, false}
-use Rattle.std.proofs.lemmas.List.{nil_from_length}
+use Rattle.std.proofs.Common.{◌∷◌, ◌≡◌, ℕ, ◌+◌, ◌≤◌, List, [], ◌++◌, length, take, refl, ap, sym, subst, ◌∙◌, arith, length-append, append-nil, Some, None, Result, Ok, Err, inl, inr, ⊎_elim, false}
 use Rattle.std.specs.declared.option.Option.{Option}
 use Rattle.std.specs.Io.KnownBytes.{prepend_known, append_known, IsAtEnd}
 use Rattle.mm_host.specs.Causes.{HasCause, next_count}
@@ -15,10 +14,10 @@ use Rattle.mm_run.specs.Inside.Buffer.{Buffered}
 use Rattle.mm_run.specs.Commands.{commands, all_commands}
 use Rattle.mm_run.specs.Inside.Input.{rest, reach}
 use Rattle.mm_run.specs.Statuses.{fault_line, sink_faults_after, HasSinkFaults}
-use Rattle.mm_run.specs.Run.{Streams, AreAnswered, HasEnd, HasLine, IsShown, Runs, input_limit}
+use Rattle.mm_run.specs.Run.{AreAnswered, HasEnd, HasLine, IsShown, Runs, input_limit}
 use Rattle.mm_run.specs.Inside.Turning.{State, Served, HasStopped, IsFront, EndsWith}
 use Rattle.mm_run.proofs.Going.{prepend_known-nil, prepend_known-append}
-use Rattle.mm_run.proofs.Turns.{known-rest, append_known-twice, append_known-nil}
+use Rattle.mm_run.proofs.Turns.{known-rest, append_known-twice}
 
 -- nothing is left behind bytes that are none
 at-end : (left : Option (List ℕ)) (held : List ℕ) → IsAtEnd (prepend_known held left) → IsAtEnd left

@@ -1,4 +1,4 @@
-use Rattle.std.proofs.Common.{◌∙◌, ap, arith}
+use Rattle.std.proofs.Common.{◌∙◌, arith}
 use Rattle.mm_run.proofs.Parts.{so_far-still, so_far-part, so_far-feed, taken-feed, taken-all}
 use Rattle.mm_run.proofs.line.read_line.Goals as goal
 

@@ -1,4 +1,4 @@
-use Rattle.std.proofs.Common.{◌∙◌, ap}
+use Rattle.std.proofs.Common.{◌∙◌}
 use Rattle.mm_run.proofs.Gathering.{skips-more, skips-closed, skips-last, skips-cut, skips-full, skips-failed}
 use Rattle.mm_run.proofs.payload.skip_payload.Goals as goal
 

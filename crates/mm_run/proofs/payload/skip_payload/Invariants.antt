@@ -1,4 +1,4 @@
-use Rattle.std.proofs.Common.{◌≡◌, ◌≤◌}
+use Rattle.std.proofs.Common.{◌≡◌}
 use Rattle.mm_run.specs.Inside.Input.{rest, reach}
 use Rattle.mm_run.proofs.Gathering.{Skips}
 use Rattle.mm_run.proofs.payload.skip_payload.Given as goal
