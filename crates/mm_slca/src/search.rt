@@ -8,6 +8,7 @@ ghost use Rattle.mm_lists.specs.Leaves.{Leaves};
 ghost use Rattle.mm_lists.specs.Full.{MeetsAll};
 ghost use Rattle.mm_slca.specs.Bound.{cost_of};
 ghost use Rattle.mm_slca.specs.Inside.Walk.{Stands};
+ghost use Rattle.mm_label.specs.Fronts.{or_empty};
 
 use crate::walk::{Walk, finish, take_up};
 use mm_host::Fault;
@@ -18,7 +19,6 @@ use mm_steps::Steps;
 use mm_words::{Query, Word};
 use std::alloc::Global;
 use std::sync::ledger::Ledger;
-ghost use Rattle.mm_label.specs.Fronts.{or_empty};
 
 /// Passes the node at which the walk stands, and goes to the next of its list.
 fn pass<X: Lists, L: Ledger>(

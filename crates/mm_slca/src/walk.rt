@@ -2,11 +2,11 @@
 
 ghost use Rattle.std.specs.Prelude.{◌≡◌, ◌<◌, IfOk};
 ghost use Rattle.mm_slca.specs.Inside.Walk.{finished, taken_done, taken_held};
+ghost use Rattle.mm_label.specs.Fronts.{or_empty};
 
 use mm_label::Label;
 use mm_list::Items;
 use std::alloc::AllocError;
-ghost use Rattle.mm_label.specs.Fronts.{or_empty};
 
 /// The answers so far, and the candidate that is held.
 #[derive(Drop)]
