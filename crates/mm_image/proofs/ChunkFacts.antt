@@ -61,7 +61,7 @@ pub valid_parts : (kind : Kind) → is_valid_kind kind ≡ true → has_valid_pa
 unfolding is_valid_kind
 valid_parts kind h = (and_parts (has_valid_parts kind) _ h).0
 
-few_pieces : (kind : Kind) → is_valid_kind kind ≡ true → nat_le (piece_count kind) 4294967296 ≡ true
+pub few_pieces : (kind : Kind) → is_valid_kind kind ≡ true → nat_le (piece_count kind) 4294967296 ≡ true
 unfolding is_valid_kind
 few_pieces kind h = (and_parts (has_valid_parts kind) _ h).1
 
@@ -135,7 +135,7 @@ chunks_more was here more all e inner rest same p q =
 pub first_valid : (e : Labelled) (inner rest : Trees Labelled) → every has_valid_kind (node e inner rest) ≡ true → is_valid_kind e.kind ≡ true
 first_valid e inner rest h = (and_parts (is_valid_kind e.kind) _ (and_parts (has_valid_kind e (has_some inner)) _ h).0).0
 
-inner_valid : (e : Labelled) (inner rest : Trees Labelled) → every has_valid_kind (node e inner rest) ≡ true → every has_valid_kind inner ≡ true
+pub inner_valid : (e : Labelled) (inner rest : Trees Labelled) → every has_valid_kind (node e inner rest) ≡ true → every has_valid_kind inner ≡ true
 inner_valid e inner rest h = (and_parts (every has_valid_kind inner) _ (and_parts (has_valid_kind e (has_some inner)) _ h).1).0
 
 pub rest_valid : (e : Labelled) (inner rest : Trees Labelled) → every has_valid_kind (node e inner rest) ≡ true → every has_valid_kind rest ≡ true

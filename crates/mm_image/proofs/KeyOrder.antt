@@ -25,10 +25,10 @@ Ancestry = (a b : List ℤ) → IsLabel a → IsLabel b → (IsPrefix (bytes_of 
 
 -- ---- lists with ends
 
-less_is : (x y : ℕ) → x < y → nat_cmp x y ≡ Less
+pub less_is : (x y : ℕ) → x < y → nat_cmp x y ≡ Less
 less_is x y h = grind arith
 
-tie : (x : ℕ) → nat_cmp x x ≡ Equal
+pub tie : (x : ℕ) → nat_cmp x x ≡ Equal
 tie x = grind arith
 
 equal_is : (x y : ℕ) → nat_cmp x y ≡ Equal → x ≡ y
@@ -141,7 +141,7 @@ fronts (x ∷ a) (y ∷ b) i = let t = fronts a b i.1 in let u = t.1 in let q = 
 
 -- ---- chunks
 
-chunk_less : ByteOrder → Ancestry → (a b : List ℤ) (s t : List ℕ) → IsLabel a → IsLabel b → slice_cmp int_cmp a b ≡ Less → slice_cmp nat_cmp (bytes_of a ++ (0 ∷ s)) (bytes_of b ++ (0 ∷ t)) ≡ Less
+pub chunk_less : ByteOrder → Ancestry → (a b : List ℤ) (s t : List ℕ) → IsLabel a → IsLabel b → slice_cmp int_cmp a b ≡ Less → slice_cmp nat_cmp (bytes_of a ++ (0 ∷ s)) (bytes_of b ++ (0 ∷ t)) ≡ Less
 chunk_less order ancestry a b s t g h l = less_on (bytes_of a) (bytes_of b) (0 ∷ s) (0 ∷ t) (order a b g h ∙ l) (λ r e.
     let i = (fronts a b ((ancestry a b g h).0 (r, e))) in
     let q : bytes_of a ++ r ≡ bytes_of a ++ bytes_of i.0 = sym e ∙ (ap bytes_of i.1 ∙ flat_map-append spell a i.0) in
@@ -162,7 +162,7 @@ chunk_order order ancestry a b m n g h p q = by (slice_cmp int_cmp a b) refl
 -- ---- occurrences
 
 -- what goes on from a word goes on with a byte above 00
-word_less : (v w s t : List ℕ) → has_no_zero w ≡ true → slice_cmp nat_cmp v w ≡ Less → slice_cmp nat_cmp (v ++ (0 ∷ s)) (w ++ (0 ∷ t)) ≡ Less
+pub word_less : (v w s t : List ℕ) → has_no_zero w ≡ true → slice_cmp nat_cmp v w ≡ Less → slice_cmp nat_cmp (v ++ (0 ∷ s)) (w ++ (0 ∷ t)) ≡ Less
 word_less v w s t z l = less_on v w (0 ∷ s) (0 ∷ t) l (λ r e. goes_on r e)
   where
     head_of : (x r : List ℕ) (c : ℕ) → has_no_zero (x ++ (c ∷ r)) ≡ true → not (c == 0) ≡ true

@@ -6,5 +6,6 @@ pub mod Listing
 pub mod NameFacts
 pub mod PieceFacts
 pub mod Results
+pub mod Rising
 pub mod Telling
 pub mod WordFacts

@@ -113,7 +113,7 @@ lists_are nodes lists s e f = same_entries (λ w. list_of w nodes) lists.entries
 
 -- ---- what is made of the entries
 
-flat_map_mapped : {X Y Z : Type 0} (f : Y → List Z) (g : X → Y) (xs : List X) → flat_map f (map g xs) ≡ flat_map (λ x. f (g x)) xs
+pub flat_map_mapped : {X Y Z : Type 0} (f : Y → List Z) (g : X → Y) (xs : List X) → flat_map f (map g xs) ≡ flat_map (λ x. f (g x)) xs
 flat_map_mapped f g [] = refl
 flat_map_mapped f g (x ∷ xs) = ap (λ z. f (g x) ++ z) (flat_map_mapped f g xs)
 

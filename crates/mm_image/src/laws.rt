@@ -1,6 +1,6 @@
 //! Laws of keys, values and images: each is the contract of a function that does nothing.
 
-ghost use Rattle.mm_image.specs.Laws.{ChunkOrder, CountOrder, CountsAreLengths, FirstPieceNames, KeysAreApart, OccurrenceOrder};
+ghost use Rattle.mm_image.specs.Laws.{ChunkOrder, CountOrder, CountsAreLengths, FirstPieceNames, ImagesRise, KeysAreApart, OccurrenceOrder};
 
 use mm_label::laws::{ancestry, byte_order, one_label};
 
@@ -27,3 +27,11 @@ pub fn values_tell()
     ensures names { FirstPieceNames }
     ensures counts { CountsAreLengths }
 {}
+
+/// The keys of the entries of a well-formed forest rise: its image is a sorted map.
+pub fn images_rise()
+    ensures { ImagesRise }
+{
+    byte_order();
+    ancestry()
+}
