@@ -1,0 +1,11 @@
+pub mod Apart
+pub mod ChunkFacts
+pub mod KeyFacts
+pub mod KeyOrder
+pub mod Listing
+pub mod NameFacts
+pub mod PieceFacts
+pub mod Results
+pub mod Rising
+pub mod Telling
+pub mod WordFacts

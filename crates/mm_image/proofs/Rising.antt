@@ -1,0 +1,332 @@
+-- The keys of the entries of a well-formed forest rise.
+use Rattle.std.proofs.Common.{inl, inr, ◌≡◌, ◌⊎◌, ℕ, ℤ, zero, suc, ◌+◌, ◌<◌, ◌≤◌, Bool, true, false, cond, IsTrue, List, [], ◌∷◌, ◌++◌, refl, ap, sym, subst, ◌∙◌, Option, Some, None, Less, map, length, arith}
+use Rattle.std.specs.Prelude.{bytes_eq, flat_map, filter}
+use Rattle.std.specs.Cmp.Lexicographic.{slice_cmp}
+use Rattle.std.specs.List.{AllByRecursion, list_any, range_with_len, starts_with}
+use Rattle.std.specs.List.Sorted.{IsStrictlySortedBy}
+use Rattle.std.specs.Ordering.{int_cmp, int_eq, is_lt, nat_cmp, ordering_then}
+use Rattle.std.proofs.lemmas.Bool.{and_parts, leb-true}
+use Rattle.std.proofs.lemmas.Bool.Decides.{Decides-int_eq, nat_tests}
+use Rattle.std.proofs.lemmas.Cmp.{int_cmp_total, lists_total, nat_list_cmp_total, tied_itself}
+use Rattle.std.proofs.lemmas.Grind.{flat_map-append}
+use Rattle.std.proofs.lemmas.Slice.Eq.{starts_is}
+use Rattle.mm_label.specs.Bytes.{bytes_of}
+use Rattle.mm_label.specs.Fronts.{Ascends, Lt, Ordered, Within}
+use Rattle.mm_label.specs.Facts.Lists.{ascends_own, within_own}
+use Rattle.mm_label.specs.Facts.Members.{within_in, within_joined}
+use Rattle.mm_label.specs.Facts.Order.{lt_before}
+use Rattle.mm_label.specs.Facts.Ordered.{ordered_joined, ordered_map}
+use Rattle.mm_label.specs.Label.{IsLabel, all_in_range, is_empty, is_odd, is_segment, last_odd}
+use Rattle.mm_words.specs.Words.{is_word, name_pieces, name_words, text_words}
+use Rattle.mm_keeper.specs.Entries.{Entries, Entry, IsBelow, Rises, below}
+use Rattle.mm_tree.specs.declared.plain.Kind.{Kind}
+use Rattle.mm_tree.specs.declared.plain.Kind.TheVariants.{Element, Words}
+use Rattle.mm_tree.specs.Facts.Formed.{formed}
+use Rattle.mm_tree.specs.Facts.Places.{preorder_each, preorder_rises}
+use Rattle.mm_tree.specs.Formed.{node_label}
+use Rattle.mm_tree.specs.Forests.{are_labelled, has_valid_kind, is_child_label, is_well_formed, segment_below}
+use Rattle.mm_tree.specs.Numbering.{Labelled, has_room}
+use Rattle.mm_tree.specs.Search.{Worded, attribute_words, has, list_of, own, worded, worded_as}
+use Rattle.mm_tree.specs.Trees.{Trees, none, node, every, has_some, preorder}
+use Rattle.mm_tree.specs.Validity.{is_valid_kind, piece_count}
+use Rattle.mm_image.specs.Content.{piece}
+use Rattle.mm_image.specs.Image.{chunks, chunks_of, count_of, counts, image, in_order, occurrences, occurrences_of, with_word, words}
+use Rattle.mm_image.specs.Keys.{chunk_key, occurrence_key}
+use Rattle.mm_image.specs.Laws.{ImagesRise}
+use Rattle.mm_image.proofs.ChunkFacts.{few_pieces, first_valid, inner_valid, rest_valid}
+use Rattle.mm_image.proofs.KeyFacts.{no_zero}
+use Rattle.mm_image.proofs.KeyOrder.{Ancestry, ByteOrder, chunk_less, chunk_order, less_is, occurrence_order, word_less}
+use Rattle.mm_image.proofs.Listing.{flat_map_mapped}
+use Rattle.mm_image.proofs.WordFacts.{Above, in_order_rises}
+
+-- ---- lists in order
+
+within_flat : {X Y : Type 0} (f : X → List Y) (y : Y) (xs : List X) → Within y (flat_map f xs) → (x : X) × Within x xs × Within y (f x)
+within_flat f y [] w = absurd w
+within_flat f y (x ∷ xs) w = elim (within_joined y (f x) (flat_map f xs) w) [
+  | inl k ↦ (x, inl refl, k)
+  | inr k ↦ let t = within_flat f y xs k in (t.0, inr t.1, t.2)
+]
+
+ordered_flat : {X Y : Type 0} (S : X → X → Type 0) (R : Y → Y → Type 0) (f : X → List Y) (xs : List X) → Ordered S xs → ((x : X) → Within x xs → Ordered R (f x))
+    → ((x z : X) → Within x xs → Within z xs → S x z → (u v : Y) → Within u (f x) → Within v (f z) → R u v) → Ordered R (flat_map f xs)
+ordered_flat S R f [] o g h = tt
+ordered_flat S R f (x ∷ xs) o g h =
+    ordered_joined R (f x) (flat_map f xs) (g x (inl refl))
+    (ordered_flat S R f xs o.1 (λ z w. g z (inr w)) (λ y z p q. h y z (inr p) (inr q)))
+    (λ u v p q. let t = within_flat f v xs q in h x t.0 (inl refl) (inr t.1) (o.0 t.0 t.1) u v p t.2)
+
+ordered_with : {X : Type 0} (R S : X → X → Type 0) (xs : List X) → ((u r : X) → Within u xs → Within r xs → R u r → S u r) → Ordered R xs → Ordered S xs
+ordered_with R S [] f o = tt
+ordered_with R S (x ∷ xs) f o = (λ r w. f x r (inl refl) (inr w) (o.0 r w), ordered_with R S xs (λ u r p q. f u r (inr p) (inr q)) o.1)
+
+within_range : {X : Type 0} (g : ℕ → X) (x : X) (n a : ℕ) → Within x (map g (range_with_len a n)) → (i : ℕ) × (a ≤ i) × (i < a + n) × (x ≡ g i)
+within_range g x zero a w = absurd w
+within_range g x (suc n) a w = elim w [
+  | inl e ↦ (a, omega arith, omega arith, e)
+  | inr k ↦ let t = within_range g x n (a + 1) k in let l = t.1 in let m = t.2 in (t.0, omega arith, omega arith, t.3)
+]
+
+ordered_range : {X : Type 0} (R : X → X → Type 0) (g : ℕ → X) (n a : ℕ) → ((i j : ℕ) → i < j → j < a + n → R (g i) (g j)) → Ordered R (map g (range_with_len a n))
+ordered_range R g zero a h = tt
+ordered_range R g (suc n) a h = (
+  λ x w. let t = within_range g x n (a + 1) w in let l = t.1 in let m = t.2 in subst (R (g a)) (sym t.3) (h a t.0 (omega arith) (omega arith)),
+  ordered_range R g n (a + 1) (λ i j p q. h i j p (omega arith)),
+)
+
+abbrev Before : Entry → Entry → Type 0
+Before d e = below d.0 e.0 ≡ true
+
+below_all : (k : List ℕ) (m : Entries) → ((e : Entry) → Within e m → below k e.0 ≡ true) → IsBelow k m
+below_all k [] f = tt
+below_all k (e ∷ m) f = (f e (inl refl), below_all k m (λ d w. f d (inr w)))
+
+rises : (m : Entries) → Ordered Before m → Rises m
+rises [] o = tt
+rises (e ∷ m) o = (below_all e.0 m o.0, rises m o.1)
+
+is_below : (k l : List ℕ) → slice_cmp nat_cmp k l ≡ Less → below k l ≡ true
+is_below k l e = ap is_lt e
+
+-- ---- the nodes
+
+ends_odd : (b : Bool) (y s : List ℤ) → is_segment s ≡ true → last_odd b (y ++ s) ≡ true
+ends_odd b [] [] h = absurd cc
+ends_odd b [] (c ∷ s) h = by (is_odd c) refl h (ends_odd (is_odd c) [] s)
+  where
+    last : (s : List ℤ) → is_empty s ≡ true → is_odd c ≡ true → last_odd (is_odd c) s ≡ true
+    last [] g e = e
+    last (d ∷ s) g e = absurd cc
+
+    by : (o : Bool) → is_odd c ≡ o → cond o (is_empty s) (is_segment s) ≡ true → (is_segment s ≡ true → last_odd (is_odd c) s ≡ true) → last_odd (is_odd c) s ≡ true
+    by true e h f = last s h e
+    by false e h f = f h
+ends_odd b (c ∷ y) s h = ends_odd (is_odd c) y s h
+
+labels_are : (y : List ℤ) (left : Option (List ℤ)) (f : Trees Labelled) (d : Labelled) → are_labelled y left f ≡ true → every has_room f ≡ true → Within d (preorder f) → IsLabel d.label
+labels_are y left none d a r i = absurd i
+labels_are y left (node e inner rest) d a r i =
+    let p = and_parts (is_child_label y left e.label) _ a in
+    let q = and_parts (are_labelled e.label None inner) _ p.1 in
+    let c = and_parts (starts_with int_eq e.label y) _ p.0 in
+    let g = and_parts (is_segment (segment_below y e.label)) _ c.1 in
+    let k = and_parts (has_room e (has_some inner)) _ r in
+    let l = and_parts (every has_room inner) _ k.1 in
+    elim i [
+      | inl h ↦ subst (λ (z : Labelled). IsLabel z.label) (sym h) (
+          let t = and_parts (all_in_range e.label) _ k.0 in
+          let j = (starts_is Decides-int_eq e.label y (starts_with int_eq e.label y) refl).0 c.0 in
+          record {
+            in_range = t.0;
+            ends_odd = subst (λ (z : List ℤ). last_odd false z ≡ true) (sym j) (ends_odd false y (segment_below y e.label) g.0);
+            short = leb-true (length (bytes_of e.label)) 512 t.1;
+          })
+      | inr h ↦ elim (within_joined d (preorder inner) (preorder rest) h) [
+        | inl m ↦ labels_are e.label None inner d q.0 l.0 m
+        | inr m ↦ labels_are y (Some (segment_below y e.label)) rest d q.1 l.1 m
+      ]
+    ]
+
+kinds_are : (f : Trees Labelled) (d : Labelled) → every has_valid_kind f ≡ true → Within d (preorder f) → is_valid_kind d.kind ≡ true
+kinds_are none d v i = absurd i
+kinds_are (node e inner rest) d v i = elim i [
+  | inl h ↦ subst (λ (z : Labelled). is_valid_kind z.kind ≡ true) (sym h) (first_valid e inner rest v)
+  | inr h ↦ elim (within_joined d (preorder inner) (preorder rest) h) [
+    | inl m ↦ kinds_are inner d (inner_valid e inner rest v) m
+    | inr m ↦ kinds_are rest d (rest_valid e inner rest v) m
+  ]
+]
+
+abbrev Label : Type 0
+Label = List ℤ
+
+abbrev Word : Type 0
+Word = List ℕ
+
+-- what a well-formed forest gives
+record Nodes (f : Trees Labelled) : Type 0 where
+  label : (d : Labelled) → Within d (preorder f) → IsLabel d.label
+  kind : (d : Labelled) → Within d (preorder f) → is_valid_kind d.kind ≡ true
+  order : Ordered (λ a b. Lt (node_label a) (node_label b)) (preorder f)
+
+nodes_of : (f : Trees Labelled) → IsTrue (is_well_formed f) → Nodes f
+nodes_of f w =
+    let a = and_parts (are_labelled [] None f) _ w in
+    let r = and_parts (every has_room f) _ a.1 in
+    let v = and_parts (every has_valid_kind f) _ r.1 in
+    record {
+      label = λ d i. labels_are [] None f d a.0 r.0 i;
+      kind = λ d i. kinds_are f d v.0 i;
+      order = preorder_rises node_label [] f (formed f w);
+    }
+
+-- ---- chunks
+
+chunks_rise : ByteOrder → Ancestry → (f : Trees Labelled) → Nodes f → Ordered Before (chunks f)
+chunks_rise order ancestry f n = ordered_flat (λ a b. Lt (node_label a) (node_label b)) Before chunks_of (preorder f) n.order
+    (λ e w. ordered_range Before (λ i. (chunk_key e.label i, piece e.kind i)) (piece_count e.kind) 0 (λ i j p q.
+    let few = few_pieces e.kind (n.kind e w) in
+    let most : piece_count e.kind ≤ 4294967296 = grind (arith, nat_tests, few) in
+    let l = n.label e w in
+    is_below (chunk_key e.label i) (chunk_key e.label j) (
+    chunk_order order ancestry e.label e.label i j l l (omega arith) (omega arith)
+    ∙ (ap (λ o. ordering_then o (nat_cmp i j)) (tied_itself (lists_total int_cmp_total) e.label) ∙ less_is i j p))))
+    (λ a b p q s u v x y.
+    let t = within_range (λ i. (chunk_key a.label i, piece a.kind i)) u (piece_count a.kind) 0 x in
+    let r = within_range (λ i. (chunk_key b.label i, piece b.kind i)) v (piece_count b.kind) 0 y in
+    subst (λ (z : Entry). below z.0 v.0 ≡ true) (sym t.3) (subst (λ (z : Entry). below (chunk_key a.label t.0) z.0 ≡ true) (sym r.3)
+    (is_below (chunk_key a.label t.0) (chunk_key b.label r.0) (both_less a.label b.label _ _ (n.label a p) (n.label b q) (lt_before a.label b.label s)))))
+  where
+    both_less : (a b : Label) (s t : List ℕ) → IsLabel a → IsLabel b → slice_cmp int_cmp a b ≡ Less → slice_cmp nat_cmp (1 ∷ bytes_of a ++ (0 ∷ s)) (1 ∷ bytes_of b ++ (0 ∷ t)) ≡ Less
+    both_less a b s t g h l = chunk_less order ancestry a b s t g h l
+
+-- ---- the nodes of a word
+
+own_label : Word → Labelled → List Label
+own_label w e = cond (list_any (bytes_eq w) (own e.kind)) (e.label ∷ []) []
+
+list_is : (w : Word) (nodes : Trees Worded) → list_of w nodes ≡ flat_map (λ e. cond (has e w) (e.label ∷ []) []) (preorder nodes)
+list_is w none = refl
+list_is w (node e inner rest) = ap (λ (z : List Label). cond (has e w) (e.label ∷ []) [] ++ z) (
+    ap (λ (z : List Label). z ++ list_of w rest) (list_is w inner)
+    ∙ (ap (λ (z : List Label). flat_map (λ d. cond (has d w) (d.label ∷ []) []) (preorder inner) ++ z) (list_is w rest)
+    ∙ sym (flat_map-append (λ d. cond (has d w) (d.label ∷ []) []) (preorder inner) (preorder rest))))
+
+listed_is : (w : Word) (f : Trees Labelled) → list_of w (worded f) ≡ flat_map (own_label w) (preorder f)
+unfolding own_label
+listed_is w f = list_is w (worded f)
+    ∙ (ap (flat_map (λ e. cond (has e w) (e.label ∷ []) [])) (preorder_each worded_as f)
+    ∙ flat_map_mapped (λ e. cond (has e w) (e.label ∷ []) []) worded_as (preorder f))
+
+own_within : (w : Word) (e : Labelled) (m : Label) → Within m (own_label w e) → m ≡ e.label
+unfolding own_label
+own_within w e m h = within_own (list_any (bytes_eq w) (own e.kind)) e.label m h
+
+own_ascends : (w : Word) (e : Labelled) → Ascends (own_label w e)
+unfolding own_label
+own_ascends w e = ascends_own (list_any (bytes_eq w) (own e.kind)) e.label
+
+list_ascends : (w : Word) (f : Trees Labelled) → Nodes f → Ascends (list_of w (worded f))
+list_ascends w f n = subst Ascends (sym (listed_is w f)) (
+    ordered_flat (λ a b. Lt (node_label a) (node_label b)) Lt (own_label w) (preorder f) n.order
+    (λ e i. own_ascends w e)
+    (λ a b p q s u v x y. subst (λ (z : Label). Lt z v) (sym (own_within w a u x)) (subst (Lt a.label) (sym (own_within w b v y)) s)))
+
+listed_label : (w : Word) (f : Trees Labelled) → Nodes f → (m : Label) → Within m (list_of w (worded f)) → IsLabel m
+listed_label w f n m h =
+    let t = within_flat (own_label w) m (preorder f) (subst (Within m) (listed_is w f) h) in
+    subst IsLabel (sym (own_within w t.0 m t.2)) (n.label t.0 t.1)
+
+-- ---- words
+
+within_filter : {X : Type 0} (p : X → Bool) (x : X) (xs : List X) → Within x (filter p xs) → p x ≡ true
+within_filter p x [] h = absurd h
+within_filter p x (a ∷ xs) h = by (p a) refl h (within_filter p x xs)
+  where
+    by : (b : Bool) → p a ≡ b → Within x (cond b (a ∷ filter p xs) (filter p xs)) → (Within x (filter p xs) → p x ≡ true) → p x ≡ true
+    by true e h f = elim h [ inl q ↦ subst (λ z. p z ≡ true) (sym q) e | inr q ↦ f q ]
+    by false e h f = f h
+
+text_word : (w text : Word) → Within w (text_words text) → is_word w ≡ true
+text_word w text h = search within_filter
+
+name_word : (w name : Word) → Within w (name_words name) → is_word w ≡ true
+name_word w name h = let t = within_flat text_words w (name_pieces name) h in text_word w t.0 t.2
+
+own_word : (w : Word) (kind : Kind) → Within w (own kind) → is_word w ≡ true
+own_word w (Words text) h = text_word w text h
+own_word w (Element name attributes) h = elim (within_joined w (name_words name) (flat_map attribute_words attributes) h) [
+  | inl q ↦ name_word w name q
+  | inr q ↦ let t = within_flat attribute_words w attributes q in let a = t.0 in elim (within_joined w (name_words a.name) (text_words a.value) t.2) [ inl r ↦ name_word w a.name r | inr r ↦ text_word w a.value r ]
+]
+
+with_word_of : (v w : Word) (ws : List Word) → Within v (with_word w ws) → (v ≡ w) ⊎ Within v ws
+with_word_of v w [] h = elim h [ inl q ↦ inl q | inr q ↦ absurd q ]
+with_word_of v w (u ∷ us) h = by (below u w) (bytes_eq u w) h (with_word_of v w us)
+  where
+    by : (b c : Bool) → Within v (cond b (u ∷ with_word w us) (cond c (u ∷ us) (w ∷ u ∷ us))) → (Within v (with_word w us) → (v ≡ w) ⊎ Within v us) → (v ≡ w) ⊎ Within v (u ∷ us)
+    by true c h f = elim h [ inl q ↦ inr (inl q) | inr q ↦ elim (f q) [ inl r ↦ inl r | inr r ↦ inr (inr r) ] ]
+    by false true h f = inr h
+    by false false h f = elim h [ inl q ↦ inl q | inr q ↦ inr q ]
+
+in_order_of : (v : Word) (ws : List Word) → Within v (in_order ws) → Within v ws
+in_order_of v [] h = h
+in_order_of v (w ∷ ws) h = elim (with_word_of v w (in_order ws) h) [ inl q ↦ inl q | inr q ↦ inr (in_order_of v ws q) ]
+
+words_are : (f : Trees Labelled) (v : Word) → Within v (words (worded f)) → is_word v ≡ true
+words_are f v h =
+    let t = within_flat (λ (e : Worded). e.words) v (preorder (worded f)) (in_order_of v (flat_map (λ e. e.words) (preorder (worded f))) h) in
+    let u = within_in worded_as t.0 (preorder f) (subst (Within t.0) (preorder_each worded_as f) t.1) in
+    own_word v (u.0.kind) (subst (λ (z : Worded). Within v z.words) u.2 t.2)
+
+all_within : (P : Word → Type 0) (ws : List Word) → AllByRecursion P ws → (v : Word) → Within v ws → P v
+all_within P [] a v h = absurd h
+all_within P (w ∷ ws) a v h = elim h [ inl q ↦ subst P (sym q) a.0 | inr q ↦ all_within P ws a.1 v q ]
+
+sorted_ordered : (ws : List Word) → IsStrictlySortedBy (slice_cmp nat_cmp) ws → Ordered Above ws
+unfolding IsStrictlySortedBy
+sorted_ordered [] s = tt
+sorted_ordered (w ∷ ws) s = (λ v h. all_within (Above w) ws s.0 v h, sorted_ordered ws s.1)
+
+words_rise : (nodes : Trees Worded) → Ordered Above (words nodes)
+words_rise nodes = sorted_ordered (words nodes) (in_order_rises (flat_map (λ e. e.words) (preorder nodes)))
+
+-- ---- occurrences and counts
+
+occurrences_rise : ByteOrder → (f : Trees Labelled) → Nodes f → Ordered Before (occurrences (worded f))
+occurrences_rise order f n = ordered_flat Above Before (occurrences_of (worded f)) (words (worded f)) (words_rise (worded f))
+    (λ w i. ordered_map (λ (m : Label). (occurrence_key w m, [])) Before (list_of w (worded f)) (
+    ordered_with Lt (λ a b. Before (occurrence_key w a, []) (occurrence_key w b, [])) (list_of w (worded f)) (λ a b p q s.
+    is_below (occurrence_key w a) (occurrence_key w b) (one_word w a b (words_are f w i) (listed_label w f n a p) (listed_label w f n b q) (lt_before a b s)))
+    (list_ascends w f n)))
+    (λ v w p q s x y k l.
+    let t = within_in (λ (m : Label). (occurrence_key v m, [])) x (list_of v (worded f)) k in
+    let r = within_in (λ (m : Label). (occurrence_key w m, [])) y (list_of w (worded f)) l in
+    subst (λ (z : Entry). below z.0 y.0 ≡ true) (sym t.2) (subst (λ (z : Entry). below (occurrence_key v t.0) z.0 ≡ true) (sym r.2)
+    (is_below (occurrence_key v t.0) (occurrence_key w r.0) (word_less v w (bytes_of t.0) (bytes_of r.0) (no_zero w (words_are f w q)) s))))
+  where
+    one_word : (w : Word) (a b : Label) → is_word w ≡ true → IsLabel a → IsLabel b → slice_cmp int_cmp a b ≡ Less → slice_cmp nat_cmp (occurrence_key w a) (occurrence_key w b) ≡ Less
+    one_word w a b i g h l = occurrence_order order w w a b i i g h ∙ (ap (λ o. ordering_then o (slice_cmp int_cmp a b)) (tied_itself nat_list_cmp_total w) ∙ l)
+
+counts_rise : (nodes : Trees Worded) → Ordered Before (counts nodes)
+counts_rise nodes = ordered_map (count_of nodes) Before (words nodes) (ordered_with Above (λ v w. Before (count_of nodes v) (count_of nodes w)) (words nodes) (λ v w p q s. is_below v w s) (words_rise nodes))
+
+-- ---- one run after the other
+
+-- what begins with less stands before
+headed : (a b : ℕ) (k l : List ℕ) → a < b → below (a ∷ k) (b ∷ l) ≡ true
+headed a b k l h = ap is_lt (ap (λ o. ordering_then o (slice_cmp nat_cmp k l)) (less_is a b h))
+
+abbrev Headed : ℕ → Entry → Type 0
+Headed a e = (k : List ℕ) × (e.0 ≡ a ∷ k)
+
+chunks_headed : (f : Trees Labelled) (e : Entry) → Within e (chunks f) → Headed 1 e
+chunks_headed f e h =
+    let t = within_flat chunks_of e (preorder f) h in
+    let r = within_range (λ i. (chunk_key (t.0).label i, piece (t.0).kind i)) e (piece_count (t.0).kind) 0 t.2 in
+    (_, ap (λ (z : Entry). z.0) r.3)
+
+occurrences_headed : (nodes : Trees Worded) (e : Entry) → Within e (occurrences nodes) → Headed 2 e
+occurrences_headed nodes e h =
+    let t = within_flat (occurrences_of nodes) e (words nodes) h in
+    let r = within_in (λ (m : Label). (occurrence_key t.0 m, [])) e (list_of t.0 nodes) t.2 in
+    (_, ap (λ (z : Entry). z.0) r.2)
+
+counts_headed : (nodes : Trees Worded) (e : Entry) → Within e (counts nodes) → Headed 3 e
+counts_headed nodes e h = let r = within_in (count_of nodes) e (words nodes) h in (_, ap (λ (z : Entry). z.0) r.2)
+
+apart : (a b : ℕ) (d e : Entry) → a < b → Headed a d → Headed b e → Before d e
+apart a b d e l h k = subst (λ (z : List ℕ). below z e.0 ≡ true) (sym h.1) (subst (λ (z : List ℕ). below (a ∷ h.0) z ≡ true) (sym k.1) (headed a b h.0 k.0 l))
+
+pub images_rise : ByteOrder → Ancestry → ImagesRise
+images_rise order ancestry f w =
+    let n = nodes_of f w in
+    let later = ordered_joined Before (occurrences (worded f)) (counts (worded f)) (occurrences_rise order f n) (counts_rise (worded f))
+    (λ u r p q. apart 2 3 u r (omega arith) (occurrences_headed (worded f) u p) (counts_headed (worded f) r q)) in
+    record {
+      rises = rises (image f) (ordered_joined Before (chunks f) (occurrences (worded f) ++ counts (worded f)) (chunks_rise order ancestry f n) later
+          (λ u r p q. elim (within_joined r (occurrences (worded f)) (counts (worded f)) q) [
+            | inl k ↦ apart 1 2 u r (omega arith) (chunks_headed f u p) (occurrences_headed (worded f) r k)
+            | inr k ↦ apart 1 3 u r (omega arith) (chunks_headed f u p) (counts_headed (worded f) r k)
+          ]));
+    }

@@ -1,0 +1,5 @@
+use Rattle.mm_image.proofs.Rising.{images_rise}
+use Rattle.mm_image.proofs.laws.images_rise.Goals as goal
+
+pub returns : goal.returns
+returns c = images_rise c.byte_order.ensures c.ancestry.ensures

@@ -1,0 +1,6 @@
+pub mod Keys
+pub mod Content
+pub mod Image
+pub mod Laws
+pub mod Examples
+pub mod Inside

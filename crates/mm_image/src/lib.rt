@@ -1,0 +1,17 @@
+//! The image of a forest: its nodes, words and counts as sorted entries, and how they are read back.
+#![tactic(auto)]
+
+mod bringing;
+mod content;
+mod entry;
+mod key;
+pub mod laws;
+mod parsed;
+mod pieces;
+mod reading;
+
+pub use bringing::{entries, word_counts};
+pub use entry::{Entries, Entry};
+pub use key::{chunk_key, count_key, occurrence_key};
+pub use parsed::{Parsed, parse_key};
+pub use reading::{count_of, name_of};
