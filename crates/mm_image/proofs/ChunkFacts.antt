@@ -78,7 +78,7 @@ content_sized (Element name attributes) =
     omega arith
 content_sized (Words text) = omega arith
 
-count_is : (kind : Kind) → (length (content kind) + 999) / 1000 ≡ piece_count kind
+pub count_is : (kind : Kind) → (length (content kind) + 999) / 1000 ≡ piece_count kind
 count_is kind = ap (λ (n : ℕ). (n + 999) / 1000) (sym (content_sized kind))
 
 length_mapped : {X : Type 0} (f : ℕ → X) (n a : ℕ) → length (map f (range_with_len a n)) ≡ n

@@ -1,5 +1,6 @@
 pub mod Apart
 pub mod ChunkFacts
+pub mod Determined
 pub mod KeyFacts
 pub mod KeyOrder
 pub mod Listing

@@ -23,7 +23,7 @@ pub take_front : (p r : List ℕ) → take (length p) (p ++ r) ≡ p
 take_front [] r = refl
 take_front (x ∷ p) r = ap (λ (z : List ℕ). x ∷ z) (take_front p r)
 
-take_all : (n : ℕ) (xs : List ℕ) → length xs ≤ n → take n xs ≡ xs
+pub take_all : (n : ℕ) (xs : List ℕ) → length xs ≤ n → take n xs ≡ xs
 take_all zero [] l = refl
 take_all zero (x ∷ xs) l = absurd (omega arith)
 take_all (suc n) [] l = refl

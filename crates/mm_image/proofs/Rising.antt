@@ -41,7 +41,7 @@ use Rattle.mm_image.proofs.WordFacts.{Above, in_order_rises}
 
 -- ---- lists in order
 
-within_flat : {X Y : Type 0} (f : X → List Y) (y : Y) (xs : List X) → Within y (flat_map f xs) → (x : X) × Within x xs × Within y (f x)
+pub within_flat : {X Y : Type 0} (f : X → List Y) (y : Y) (xs : List X) → Within y (flat_map f xs) → (x : X) × Within x xs × Within y (f x)
 within_flat f y [] w = absurd w
 within_flat f y (x ∷ xs) w = elim (within_joined y (f x) (flat_map f xs) w) [
   | inl k ↦ (x, inl refl, k)
@@ -60,7 +60,7 @@ ordered_with : {X : Type 0} (R S : X → X → Type 0) (xs : List X) → ((u r :
 ordered_with R S [] f o = tt
 ordered_with R S (x ∷ xs) f o = (λ r w. f x r (inl refl) (inr w) (o.0 r w), ordered_with R S xs (λ u r p q. f u r (inr p) (inr q)) o.1)
 
-within_range : {X : Type 0} (g : ℕ → X) (x : X) (n a : ℕ) → Within x (map g (range_with_len a n)) → (i : ℕ) × (a ≤ i) × (i < a + n) × (x ≡ g i)
+pub within_range : {X : Type 0} (g : ℕ → X) (x : X) (n a : ℕ) → Within x (map g (range_with_len a n)) → (i : ℕ) × (a ≤ i) × (i < a + n) × (x ≡ g i)
 within_range g x zero a w = absurd w
 within_range g x (suc n) a w = elim w [
   | inl e ↦ (a, omega arith, omega arith, e)
@@ -144,12 +144,12 @@ abbrev Word : Type 0
 Word = List ℕ
 
 -- what a well-formed forest gives
-record Nodes (f : Trees Labelled) : Type 0 where
-  label : (d : Labelled) → Within d (preorder f) → IsLabel d.label
-  kind : (d : Labelled) → Within d (preorder f) → is_valid_kind d.kind ≡ true
-  order : Ordered (λ a b. Lt (node_label a) (node_label b)) (preorder f)
+pub record Nodes (f : Trees Labelled) : Type 0 where
+  pub label : (d : Labelled) → Within d (preorder f) → IsLabel d.label
+  pub kind : (d : Labelled) → Within d (preorder f) → is_valid_kind d.kind ≡ true
+  pub order : Ordered (λ a b. Lt (node_label a) (node_label b)) (preorder f)
 
-nodes_of : (f : Trees Labelled) → IsTrue (is_well_formed f) → Nodes f
+pub nodes_of : (f : Trees Labelled) → IsTrue (is_well_formed f) → Nodes f
 nodes_of f w =
     let a = and_parts (are_labelled [] None f) _ w in
     let r = and_parts (every has_room f) _ a.1 in
@@ -297,22 +297,22 @@ counts_rise nodes = ordered_map (count_of nodes) Before (words nodes) (ordered_w
 headed : (a b : ℕ) (k l : List ℕ) → a < b → below (a ∷ k) (b ∷ l) ≡ true
 headed a b k l h = ap is_lt (ap (λ o. ordering_then o (slice_cmp nat_cmp k l)) (less_is a b h))
 
-abbrev Headed : ℕ → Entry → Type 0
+abbrev pub Headed : ℕ → Entry → Type 0
 Headed a e = (k : List ℕ) × (e.0 ≡ a ∷ k)
 
-chunks_headed : (f : Trees Labelled) (e : Entry) → Within e (chunks f) → Headed 1 e
+pub chunks_headed : (f : Trees Labelled) (e : Entry) → Within e (chunks f) → Headed 1 e
 chunks_headed f e h =
     let t = within_flat chunks_of e (preorder f) h in
     let r = within_range (λ i. (chunk_key (t.0).label i, piece (t.0).kind i)) e (piece_count (t.0).kind) 0 t.2 in
     (_, ap (λ (z : Entry). z.0) r.3)
 
-occurrences_headed : (nodes : Trees Worded) (e : Entry) → Within e (occurrences nodes) → Headed 2 e
+pub occurrences_headed : (nodes : Trees Worded) (e : Entry) → Within e (occurrences nodes) → Headed 2 e
 occurrences_headed nodes e h =
     let t = within_flat (occurrences_of nodes) e (words nodes) h in
     let r = within_in (λ (m : Label). (occurrence_key t.0 m, [])) e (list_of t.0 nodes) t.2 in
     (_, ap (λ (z : Entry). z.0) r.2)
 
-counts_headed : (nodes : Trees Worded) (e : Entry) → Within e (counts nodes) → Headed 3 e
+pub counts_headed : (nodes : Trees Worded) (e : Entry) → Within e (counts nodes) → Headed 3 e
 counts_headed nodes e h = let r = within_in (count_of nodes) e (words nodes) h in (_, ap (λ (z : Entry). z.0) r.2)
 
 apart : (a b : ℕ) (d e : Entry) → a < b → Headed a d → Headed b e → Before d e

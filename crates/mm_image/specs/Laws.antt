@@ -46,3 +46,7 @@ CountsAreLengths = (nodes : Trees Worded) (w : List ℕ) → length (list_of w n
 -- the keys of a forest's entries rise
 abbrev pub ImagesRise : Type 0
 ImagesRise = (forest : Trees Labelled) → IsTrue (is_well_formed forest) → IsSorted (image forest)
+
+-- two well-formed forests with the same entries are the same
+abbrev pub ImagesTellForests : Type 0
+ImagesTellForests = (f g : Trees Labelled) → IsTrue (is_well_formed f) → IsTrue (is_well_formed g) → image f ≡ image g → f ≡ g

@@ -1,6 +1,6 @@
 //! Laws of keys, values and images: each is the contract of a function that does nothing.
 
-ghost use Rattle.mm_image.specs.Laws.{ChunkOrder, CountOrder, CountsAreLengths, FirstPieceNames, ImagesRise, KeysAreApart, OccurrenceOrder};
+ghost use Rattle.mm_image.specs.Laws.{ChunkOrder, CountOrder, CountsAreLengths, FirstPieceNames, ImagesRise, ImagesTellForests, KeysAreApart, OccurrenceOrder};
 
 use mm_label::laws::{ancestry, byte_order, one_label};
 
@@ -34,4 +34,11 @@ pub fn images_rise()
 {
     byte_order();
     ancestry()
+}
+
+/// The entries of a well-formed forest tell the forest: no other one has them.
+pub fn images_tell_forests()
+    ensures { ImagesTellForests }
+{
+    one_label()
 }
