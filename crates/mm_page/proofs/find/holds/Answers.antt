@@ -1,0 +1,20 @@
+use Rattle.std.proofs.Common.{◌≡◌, ◌+◌, ◌*◌, ◌-◌, ◌/◌, ◌≤◌, ◌<◌, ℕ, suc, List, [], length, take, get_or, true, false, nat_lt, sym, ap, ap₂, ◌∙◌, subst, arith, refl}
+use Rattle.std.specs.Str.{bytes_eq}
+use Rattle.mm_keeper.specs.Entries.{below, rank, has}
+use Rattle.mm_page.specs.Leaf.{IsLeaf, entries_of, number_at, place_in, block}
+use Rattle.mm_page.proofs.Rows.{leaf-entry, leaf-count}
+use Rattle.mm_page.proofs.Finding.{rank-above, rank-most, rank-length, has-in, has-out}
+use Rattle.mm_page.proofs.find.holds.Goals as goal
+
+pub returns-then-index-count : goal.returns-then-index-count
+returns-then-index-count c =
+    let m = entries_of c.args.bytes.now in
+    let k = c.args.key.now in
+    c.eq.ensures ∙ ap (λ t. bytes_eq t k) c.key_in.ensures ∙ ap (λ i. bytes_eq (get_or m i ([], [])).0 k) c.requires.index
+    ∙ sym (has-in k m (omega (arith, c.requires.index, c.requires.count, c.if-index-count.true)))
+
+pub returns-else-index-count : goal.returns-else-index-count
+returns-else-index-count c =
+    let m = entries_of c.args.bytes.now in
+    let f : nat_lt c.args.index c.args.count ≡ false = grind (arith, c.if-index-count.false) in
+    f ∙ sym (has-out c.args.key.now m (omega (arith, c.requires.index, c.requires.count, c.if-index-count.false)))

@@ -1,0 +1,4 @@
+pub mod Limits
+pub mod Leaf
+pub mod Rules
+pub mod Inside

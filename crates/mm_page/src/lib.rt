@@ -1,0 +1,12 @@
+//! Leaf pages: 4,096 bytes that contracts see as sorted entries and the number of the next leaf, and that are
+//! changed in place.
+#![tactic(auto)]
+
+mod bytes;
+mod change;
+mod find;
+mod page;
+mod rules;
+
+pub use page::Page;
+pub use rules::Violation;
