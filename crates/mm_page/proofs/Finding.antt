@@ -1,5 +1,5 @@
 -- A key's place among keys that rise.
-use Rattle.std.proofs.Common.{◌≡◌, ℕ, zero, suc, ◌+◌, ◌≤◌, ◌<◌, Bool, true, false, cond, List, [], ◌∷◌, length, get_or, refl, sym, ap, ◌∙◌, subst, arith}
+use Rattle.std.proofs.Common.{◌≡◌, ℕ, zero, suc, ◌≤◌, ◌<◌, Bool, true, false, cond, List, [], ◌∷◌, length, get_or, refl, arith}
 use Rattle.std.specs.Str.{bytes_eq}
 use Rattle.mm_keeper.specs.Entries.{Entries, below, IsBelow, Rises, rank, has}
 use Rattle.mm_page.proofs.Order.{below_chain}
@@ -25,9 +25,9 @@ rank-most k (e ∷ m) (suc i) l b = by (below e.0 k) (rank-most k m i (omega (ar
     by true h = omega (arith, h)
     by false h = omega arith
 
-pub rank-length : (k : List ℕ) (m : Entries) → rank m k ≤ length m
-rank-length k [] = omega arith
-rank-length k (e ∷ m) = by (below e.0 k) (rank-length k m)
+pub rank_length : (k : List ℕ) (m : Entries) → rank m k ≤ length m
+rank_length k [] = omega arith
+rank_length k (e ∷ m) = by (below e.0 k) (rank_length k m)
   where
     by : (c : Bool) → rank m k ≤ length m → cond c (suc (rank m k)) 0 ≤ suc (length m)
     by true h = omega (arith, h)

@@ -4,5 +4,8 @@ mod Reading
 mod Rows
 mod Writing
 mod Moves
+mod Setting
+mod Splitting
+mod Linking
 mod Finding
 mod Valid

@@ -1,14 +1,14 @@
 -- Cells that were moved in place: the row of the changed list.
-use Rattle.std.proofs.Common.{◌≡◌, ℕ, zero, suc, ◌+◌, ◌*◌, ◌-◌, ◌≤◌, ◌<◌, Bool, true, false, List, [], ◌∷◌, ◌++◌, length, take, drop, get_or, refl, sym, ap, ap₂, ◌∙◌, subst, arith, append_assoc, append-nil}
+use Rattle.std.proofs.Common.{◌≡◌, ℕ, suc, ◌+◌, ◌*◌, ◌-◌, ◌≤◌, ◌<◌, false, List, [], ◌∷◌, ◌++◌, length, take, drop, sym, ap, ap₂, ◌∙◌, subst, arith}
 use Rattle.std.specs.List.{insert, remove}
 use Rattle.std.proofs.lemmas.List.{length-take-le, length-drop, length-append, take-append-drop, take_all}
-use Rattle.mm_keeper.specs.Entries.{Entries, below, Rises, rank, has}
+use Rattle.mm_keeper.specs.Entries.{Entries, Rises, rank, has}
 use Rattle.mm_page.specs.Limits.{AreWithin, size}
-use Rattle.mm_page.specs.Leaf.{block, pasted, Stands, two, cell, cells, entries_of, count_of, IsLeaf, place_in, next_of}
+use Rattle.mm_page.specs.Leaf.{block, pasted, Stands, cell, cells, entries_of, IsLeaf, place_in, next_of}
 use Rattle.mm_page.specs.Inside.Rows.{IsRow}
 use Rattle.mm_page.proofs.Blocks.{stands-split, stands-join, put-same, put-before, put-after, put-length, put-next, block-length}
-use Rattle.mm_page.proofs.Rows.{cells-app, cells-size, cell-length, parted, place-next}
-use Rattle.mm_page.proofs.Order.{AreWithin-insert, rises-insert, AreWithin-remove, Rises-remove, AreWithin-parts, Rises-parts, AreWithin-app}
+use Rattle.mm_page.proofs.Rows.{cells-app, cells-size, cell-length, place-next}
+use Rattle.mm_page.proofs.Order.{AreWithin-insert, rises-insert, AreWithin-remove, Rises-remove}
 
 pub record IsMoved (old new : List ℕ) (m : Entries) : Type 0 where
   pub row : IsRow new m

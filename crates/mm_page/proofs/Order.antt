@@ -1,12 +1,10 @@
 -- The order of keys.
-use Rattle.std.proofs.Common.{◌≡◌, ℕ, zero, suc, ◌+◌, ◌≤◌, Bool, true, false, cond, List, [], ◌∷◌, ◌++◌, length, Ordering, Less, Equal, Greater, refl, sym, ap, ◌∙◌, subst, arith, append_assoc, append-nil, true≢false}
+use Rattle.std.proofs.Common.{◌≡◌, ℕ, zero, suc, ◌+◌, ◌≤◌, Bool, true, false, cond, List, [], ◌∷◌, ◌++◌, length, Ordering, Less, Equal, Greater, refl, ap, ◌∙◌}
 use Rattle.std.specs.Ordering.{nat_cmp, is_lt, is_eq, ordering_reverse}
 use Rattle.std.specs.Cmp.Lexicographic.{slice_cmp}
-use Rattle.std.specs.Cmp.{IsTotalOrder}
 use Rattle.std.specs.Str.{bytes_eq}
 use Rattle.std.proofs.lemmas.Cmp.{nat_list_cmp_total}
 use Rattle.std.proofs.lemmas.Map.Text.{is_eq-slice_cmp}
-use Rattle.std.proofs.lemmas.Slice.Eq.{bytes_eq-Decides}
 use Rattle.std.specs.List.{insert, remove}
 use Rattle.mm_keeper.specs.Entries.{Entries, below, IsBelow, Rises, rank, has}
 use Rattle.mm_page.specs.Limits.{AreWithin}
@@ -30,9 +28,6 @@ below_from a b c h k = by (slice_cmp nat_cmp c b) refl k
     by Less e l = absurd cc
     by Equal e l = ap is_lt (nat_list_cmp_total.antisymm a c ∙ ap ordering_reverse (nat_list_cmp_total.congr c b a e ∙ nat_list_cmp_total.antisymm b a ∙ ap ordering_reverse (is_less _ h)))
     by Greater e l = ap is_lt (nat_list_cmp_total.trans a b c (is_less _ h) (nat_list_cmp_total.antisymm b c ∙ ap ordering_reverse e))
-
-pub from_below : (a b c : List ℕ) → below a b ≡ false → below c b ≡ true → below a c ≡ false
-from_below a b c h k = not_above c a (below_from c b a k h)
 
 -- where neither is below the other they are one
 pub no_order : (a b : List ℕ) → below a b ≡ false → bytes_eq a b ≡ false → below b a ≡ true

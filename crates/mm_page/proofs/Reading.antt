@@ -1,18 +1,15 @@
 -- What is read is what was written, and right cells are a leaf.
-use Rattle.std.proofs.Common.{◌≡◌, ℕ, zero, suc, ◌+◌, ◌*◌, ◌-◌, ◌/◌, ◌%◌, ◌≤◌, ◌<◌, Bool, true, false, cond, Option, Some, None, List, [], ◌∷◌, ◌++◌, length, take, drop, replicate, get_or, refl, sym, ap, ap₂, ◌∙◌, subst, arith, append_assoc, append-nil, ◌==◌, nat_lt}
-use Rattle.std.proofs.lemmas.List.{length-take-le, length-drop, length-append, take-take, take_at, drop_at, drop-take, drop-drop, take-append-le, drop-append-le}
+use Rattle.std.proofs.Common.{◌≡◌, ℕ, zero, suc, ◌+◌, ◌*◌, ◌-◌, ◌≤◌, ◌<◌, true, false, Some, None, List, [], ◌∷◌, ◌++◌, length, get_or, refl, sym, ap, ap₂, ◌∙◌, subst, arith, ◌==◌, nat_lt}
+use Rattle.std.proofs.lemmas.List.{length-append}
 use Rattle.mm_keeper.specs.Entries.{Entries, below, IsBelow, Rises}
 use Rattle.mm_page.specs.Limits.{AreWithin}
-use Rattle.mm_page.specs.Leaf.{block, pasted, two, first_two, number_at, cell, cells, slots, cell_end, key_at, value_at, entries_at, entries_of, count_of, start_of, Holds, IsLeaf}
-use Rattle.mm_page.specs.Rules.{cell_fault, fault_from, fault_of, first_of, broken}
+use Rattle.mm_page.specs.Leaf.{block, two, number_at, cell, cells, slots, cell_end, key_at, value_at, entries_at, entries_of, count_of, start_of, IsLeaf}
+use Rattle.mm_page.specs.Rules.{cell_fault, fault_from, fault_of, broken}
 use Rattle.mm_page.specs.Inside.Rows.{IsCell, AreCells}
 use Rattle.mm_page.specs.declared.rules.Violation.{Violation}
-use Rattle.mm_page.proofs.Blocks.{block-glue, block-length, block-in}
+use Rattle.mm_page.proofs.Blocks.{block-glue, block-length}
 use Rattle.mm_page.proofs.Order.{below_chain}
 use Rattle.mm_page.proofs.Rows.{slots-length}
-
-pub two-read : (n : ℕ) (bs : List ℕ) → first_two (two n ++ bs) ≡ n
-two-read n bs = omega arith
 
 -- each key is below the next one, the first above a last one
 abbrev pub Climbs : List ℕ → Entries → Type 0

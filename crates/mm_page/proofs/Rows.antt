@@ -1,11 +1,10 @@
 -- Rows of slots and cells, and what is read from them.
-use Rattle.std.proofs.Common.{◌≡◌, ℕ, zero, suc, ◌+◌, ◌*◌, ◌-◌, ◌/◌, ◌%◌, ◌≤◌, ◌<◌, Bool, true, false, cond, Option, Some, None, List, [], ◌∷◌, ◌++◌, length, take, drop, replicate, get_or, refl, sym, ap, ap₂, ◌∙◌, subst, arith, append_assoc, append-nil}
-use Rattle.std.proofs.lemmas.List.{length-take-le, length-drop, length-append, take_at, drop_at, drop-drop, take-append-drop}
-use Rattle.mm_keeper.specs.Entries.{Entries, below, IsBelow, Rises}
-use Rattle.mm_page.specs.Limits.{AreWithin, size}
-use Rattle.mm_page.specs.Leaf.{block, pasted, Stands, two, first_two, number_at, cell, cells, slots, cell_end, key_at, value_at, entries_at, entries_of, count_of, start_of, Holds, IsLeaf, place_in}
-use Rattle.mm_page.specs.Inside.Rows.{IsRow}
-use Rattle.mm_page.proofs.Blocks.{block-glue, block-length, block-in, stands-split, stands-join}
+use Rattle.std.proofs.Common.{◌≡◌, ℕ, zero, suc, ◌+◌, ◌*◌, ◌-◌, ◌/◌, ◌%◌, ◌≤◌, ◌<◌, List, [], ◌∷◌, ◌++◌, length, take, drop, get_or, refl, sym, ap, ap₂, ◌∙◌, subst, arith, append_assoc}
+use Rattle.std.proofs.lemmas.List.{length-take-le, length-append, take-append-drop, take_all}
+use Rattle.mm_keeper.specs.Entries.{Entries}
+use Rattle.mm_page.specs.Limits.{size}
+use Rattle.mm_page.specs.Leaf.{block, Stands, two, first_two, number_at, cell, cells, slots, cell_end, key_at, value_at, entries_at, entries_of, count_of, Holds, IsLeaf, place_in}
+use Rattle.mm_page.proofs.Blocks.{stands-split}
 
 pub slots-length : (at : ℕ) (m : Entries) → length (slots at m) ≡ 2 * length m
 slots-length at [] = refl
@@ -84,13 +83,17 @@ parted [] i d h = absurd (omega (arith, h))
 parted (e ∷ m) zero d h = refl
 parted (e ∷ m) (suc i) d h = ap (λ t. e ∷ t) (parted m i d (omega (arith, h)))
 
-pub entry-back : (bytes : List ℕ) (m : Entries) (i : ℕ) (d : List ℕ × List ℕ) → Stands (16 + 2 * length m) (cells m) bytes → i < length m → IsAt bytes (place_in m i) (get_or m i d)
-entry-back bytes m i d h l =
+-- the cell of an entry stands at its place
+pub cell-there : (bytes : List ℕ) (m : Entries) (i : ℕ) (d : List ℕ × List ℕ) → Stands (16 + 2 * length m) (cells m) bytes → i < length m → Stands (place_in m i) (cell (get_or m i d)) bytes
+cell-there bytes m i d h l =
     let xs = take i m in
     let e = get_or m i d in
     let ys = drop (suc i) m in
     let s = stands-split (16 + 2 * length m) (cells xs) (cells (e ∷ ys)) bytes (subst (λ t. Stands (16 + 2 * length m) t bytes) (ap cells (parted m i d l) ∙ cells-app xs (e ∷ ys)) h) in
-    cell-back bytes (place_in m i) e (stands-split (place_in m i) (cell e) (cells ys) bytes s.1).0
+    (stands-split (place_in m i) (cell e) (cells ys) bytes s.1).0
+
+pub entry-back : (bytes : List ℕ) (m : Entries) (i : ℕ) (d : List ℕ × List ℕ) → Stands (16 + 2 * length m) (cells m) bytes → i < length m → IsAt bytes (place_in m i) (get_or m i d)
+entry-back bytes m i d h l = cell-back bytes (place_in m i) (get_or m i d) (cell-there bytes m i d h l)
 
 pub slot-back : (bytes : List ℕ) (m : Entries) (i : ℕ) (d : List ℕ × List ℕ) → Stands 16 (slots (16 + 2 * length m) m) bytes → i < length m → number_at (16 + 2 * i) bytes ≡ place_in m i
 slot-back bytes m i d h l =
@@ -139,9 +142,6 @@ place-last bytes n h e p =
       bound = omega (arith, s, x, place-most m (suc i), h.holds.room, cell-length (get_or m i ([], [])));
     }
 
-pub place-bound : (bytes : List ℕ) (i : ℕ) → IsLeaf bytes → place_in (entries_of bytes) i ≤ 4096
-place-bound bytes i h = omega (arith, place-most (entries_of bytes) i, h.holds.room)
-
 -- what the code reads at an index
 pub record IsEntry (bytes : List ℕ) (i at : ℕ) (e : List ℕ × List ℕ) : Type 0 where
   pub slot : number_at (16 + 2 * i) bytes ≡ at
@@ -158,3 +158,10 @@ leaf-entry bytes i h l =
       room = omega (arith, place-next m i ([], []) l, place-most m (suc i), h.holds.room, cell-length (get_or m i ([], [])));
       slots = omega (arith, l, h.holds.room);
     }
+
+-- the place behind the last cell, by what the entries take
+pub place-end : (m : Entries) → place_in m (length m) ≡ 16 + size m
+place-end m = omega (arith, ap (λ t. length (cells t)) (take_all (length m) m (omega arith)), cells-size m)
+
+pub leaf-size : (bytes : List ℕ) → IsLeaf bytes → size (entries_of bytes) ≤ 4080
+leaf-size bytes h = omega (arith, cells-size (entries_of bytes), h.holds.room)

@@ -1,8 +1,8 @@
 -- A leaf breaks no rule.
-use Rattle.std.proofs.Common.{◌≡◌, ℕ, zero, suc, ◌+◌, ◌*◌, ◌≤◌, ◌<◌, ◌==◌, Bool, true, false, cond, nat_lt, Option, Some, None, List, [], ◌∷◌, ◌++◌, length, drop, get_or, refl, sym, ap, ap₂, ◌∙◌, subst, arith}
+use Rattle.std.proofs.Common.{◌≡◌, ℕ, suc, ◌+◌, ◌*◌, ◌≤◌, ◌==◌, true, false, nat_lt, None, List, [], ◌∷◌, length, drop, get_or, refl, sym, ap, ◌∙◌, subst, arith}
 use Rattle.mm_keeper.specs.Entries.{Entries, below, IsBelow, Rises}
 use Rattle.mm_page.specs.Limits.{AreWithin}
-use Rattle.mm_page.specs.Leaf.{block, Stands, two, number_at, cell, cells, slots, cell_end, key_at, entries_of, count_of, start_of, IsLeaf}
+use Rattle.mm_page.specs.Leaf.{Stands, two, number_at, cell, cells, slots, cell_end, entries_of, IsLeaf}
 use Rattle.mm_page.specs.Rules.{cell_fault, fault_from, fault_of}
 use Rattle.mm_page.proofs.Blocks.{stands-split}
 use Rattle.mm_page.proofs.Rows.{number-block, cell-back, cell-length, leaf-count, IsAt}

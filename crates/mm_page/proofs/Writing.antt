@@ -1,12 +1,12 @@
 -- Slots that are written over cells that stand in their places.
-use Rattle.std.proofs.Common.{◌≡◌, ℕ, zero, suc, ◌+◌, ◌*◌, ◌-◌, ◌/◌, ◌%◌, ◌≤◌, ◌<◌, Bool, true, false, cond, Option, Some, None, List, [], ◌∷◌, ◌++◌, length, take, drop, replicate, get_or, refl, sym, ap, ap₂, ◌∙◌, subst, arith, append_assoc, append-nil}
-use Rattle.std.proofs.lemmas.List.{length-take-le, length-drop, length-append, take_at, drop_at, drop-drop, take-append-drop, length-replicate, take_all, drop_all}
-use Rattle.mm_keeper.specs.Entries.{Entries, below, IsBelow, Rises}
-use Rattle.mm_page.specs.Limits.{AreWithin, size}
-use Rattle.mm_page.specs.Leaf.{block, pasted, Stands, two, first_two, number_at, cell, cells, slots, cell_end, key_at, value_at, entries_at, entries_of, count_of, start_of, Holds, IsLeaf, IsTidy, place_in, next_of}
+use Rattle.std.proofs.Common.{◌≡◌, ℕ, zero, suc, ◌+◌, ◌*◌, ◌-◌, ◌≤◌, ◌<◌, List, [], ◌∷◌, ◌++◌, length, take, drop, replicate, get_or, refl, sym, ap, ap₂, ◌∙◌, subst, arith, append-nil}
+use Rattle.std.proofs.lemmas.List.{length-take-le, drop_at, length-replicate, take_all, drop_all}
+use Rattle.mm_keeper.specs.Entries.{Entries}
+use Rattle.mm_page.specs.Limits.{size}
+use Rattle.mm_page.specs.Leaf.{pasted, Stands, two, first_two, number_at, cells, slots, cell_end, entries_at, entries_of, Holds, IsLeaf, IsTidy, place_in, next_of}
 use Rattle.mm_page.specs.Inside.Rows.{IsRow}
-use Rattle.mm_page.proofs.Blocks.{block-glue, block-length, block-in, stands-split, stands-join, stands-before, stands-after, pasted-more, pasted-after, pasted-before, pasted-same, pasted-length, next-same}
-use Rattle.mm_page.proofs.Rows.{slots-length, slots-app, cells-app, entries-back, entry-back, place-next, place-most, holds-entries, holds-leaf, cell-length, IsAt}
+use Rattle.mm_page.proofs.Blocks.{stands-split, stands-join, stands-before, stands-after, pasted-more, pasted-after, pasted-before, pasted-same, pasted-length, next-same}
+use Rattle.mm_page.proofs.Rows.{slots-length, slots-app, entries-back, entry-back, place-next, place-most, holds-entries, holds-leaf, cell-length, IsAt}
 
 pub entries-length : (bytes : List ℕ) (n at : ℕ) → length (entries_at bytes n at) ≡ n
 entries-length bytes zero at = refl

@@ -1,6 +1,9 @@
 // Numbers and blocks in a page's bytes.
 ghost use Rattle.std.specs.Prelude.{◌≡◌, ◌+◌, ◌-◌, ◌≤◌, ◌<◌, ◌++◌, ℕ, List, length, take, drop, replicate};
+ghost use Rattle.byteorder.specs.Endian.{big_number, big_bytes};
 ghost use Rattle.mm_page.specs.Leaf.{block, pasted, two, first_two, number_at, cell};
+
+use byteorder::{BigEndian, ByteOrder};
 
 /// The number in the two bytes at a place, the highest first.
 pub(crate) fn read_two(bytes: &[u8], at: usize) -> usize
@@ -21,6 +24,14 @@ pub(crate) fn part(bytes: &[u8], at: usize, n: usize) -> &[u8]
     &rest[..n]
 }
 
+/// The number in the eight bytes at a place, the highest first.
+pub(crate) fn read_eight(bytes: &[u8], at: usize) -> u64
+    requires { at + 8 ≤ length bytes.now }
+    ensures { result ≡ big_number 8 (drop at bytes.now) }
+{
+    BigEndian::read_u64(&bytes[at..])
+}
+
 /// Writes a number as two bytes, the highest first.
 pub(crate) fn write_two(bytes: &mut [u8], at: usize, n: usize)
     requires room { at + 2 ≤ length bytes.old }
@@ -29,6 +40,15 @@ pub(crate) fn write_two(bytes: &mut [u8], at: usize, n: usize)
 {
     bytes[at] = (n / 256) as u8;
     bytes[at + 1] = (n % 256) as u8;
+}
+
+/// Writes a number as eight bytes, the highest first.
+pub(crate) fn write_eight(bytes: &mut [u8], at: usize, n: u64)
+    requires { at + 8 ≤ length bytes.old }
+    ensures { bytes.new ≡ pasted bytes.old at (big_bytes 8 n) }
+{
+    let part = n.to_be_bytes();
+    write_part(bytes, at, &part);
 }
 
 /// Writes bytes at a place.

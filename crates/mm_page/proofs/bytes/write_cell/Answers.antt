@@ -1,4 +1,4 @@
-use Rattle.std.proofs.Common.{◌≡◌, ◌+◌, ◌≤◌, ℕ, List, length, arith}
+use Rattle.std.proofs.Common.{arith}
 use Rattle.mm_page.proofs.Blocks.{cell-written}
 use Rattle.mm_page.proofs.bytes.write_cell.Goals as goal
 

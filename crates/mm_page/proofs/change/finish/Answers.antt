@@ -1,7 +1,7 @@
-use Rattle.std.proofs.Common.{◌≡◌, ◌+◌, ◌*◌, ◌-◌, ◌≤◌, ◌<◌, ◌++◌, ℕ, suc, List, length, take, sym, ap, ap₂, ◌∙◌, subst, arith, refl}
-use Rattle.mm_page.specs.Leaf.{pasted, IsLeaf, IsTidy, entries_of, entries_at, next_of, place_in, slots, cells, two}
+use Rattle.std.proofs.Common.{◌+◌, ◌*◌, ◌-◌, sym, ap, ◌∙◌, subst}
+use Rattle.mm_page.specs.Leaf.{pasted, entries_at, slots, two}
 use Rattle.mm_page.specs.Inside.Rows.{IsRow}
-use Rattle.mm_page.proofs.Writing.{finish-all, finish-room, entries-length, row-there, row-headed, headed, IsFinished}
+use Rattle.mm_page.proofs.Writing.{finish-all, finish-room, entries-length, row-there, row-headed, headed}
 use Rattle.mm_page.proofs.change.finish.Goals as goal
 
 pub write_slots-end-requires : goal.write_slots-end-requires

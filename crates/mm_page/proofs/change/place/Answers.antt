@@ -1,7 +1,6 @@
-use Rattle.std.proofs.Common.{◌≡◌, ◌+◌, ◌*◌, ◌-◌, ◌≤◌, ◌<◌, ◌++◌, ℕ, suc, List, [], length, take, sym, ap, ap₂, ◌∙◌, subst, arith, refl}
-use Rattle.mm_page.specs.Leaf.{pasted, IsLeaf, IsTidy, entries_of, entries_at, next_of, place_in, slots, cells, two, number_at}
-use Rattle.mm_page.specs.Inside.Rows.{IsRow}
-use Rattle.mm_page.proofs.Rows.{leaf-count, slot-back, place-last, place-bound}
+use Rattle.std.proofs.Common.{◌≡◌, ◌+◌, ◌*◌, ◌-◌, [], length, sym, ap, ap₂, ◌∙◌, arith}
+use Rattle.mm_page.specs.Leaf.{entries_of, place_in, number_at}
+use Rattle.mm_page.proofs.Rows.{leaf-count, slot-back, place-last}
 use Rattle.mm_page.proofs.change.place.Goals as goal
 
 pub returns-then-index-count : goal.returns-then-index-count

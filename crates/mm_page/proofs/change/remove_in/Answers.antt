@@ -1,10 +1,9 @@
-use Rattle.std.proofs.Common.{◌≡◌, ◌+◌, ◌*◌, ◌-◌, ◌≤◌, ◌<◌, ℕ, suc, List, [], length, take, sym, ap, ap₂, ◌∙◌, subst, arith, refl}
-use Rattle.std.specs.List.{insert, remove}
-use Rattle.mm_page.specs.Leaf.{pasted, IsLeaf, IsTidy, entries_of, entries_at, next_of, place_in, block}
-use Rattle.mm_page.specs.Inside.Rows.{IsRow}
+use Rattle.std.proofs.Common.{◌≡◌, ◌+◌, ◌*◌, ◌-◌, ◌<◌, suc, length, ap, ◌∙◌, arith}
+use Rattle.std.specs.List.{remove}
+use Rattle.mm_page.specs.Leaf.{pasted, entries_of, place_in, block}
 use Rattle.mm_page.proofs.Rows.{leaf-count}
 use Rattle.mm_page.proofs.Writing.{row-there, row-read}
-use Rattle.mm_page.proofs.Moves.{insert-done, insert-room, insert-length, remove-done, remove-room, remove-length, move-length}
+use Rattle.mm_page.proofs.Moves.{remove-done, remove-room, remove-length, move-length}
 use Rattle.mm_page.proofs.change.remove_in.Goals as goal
 
 pub move_part-requires-clause-from : goal.move_part-requires-clause-from

@@ -1,8 +1,7 @@
-use Rattle.std.proofs.Common.{◌≡◌, ◌+◌, ◌*◌, ◌-◌, ◌≤◌, ◌<◌, ◌++◌, ℕ, suc, List, length, take, sym, ap, ap₂, ◌∙◌, subst, arith, refl}
+use Rattle.std.proofs.Common.{◌≡◌, ◌+◌, ◌*◌, ◌-◌, suc, length, take, ap, ap₂, ◌∙◌, arith}
 use Rattle.std.proofs.lemmas.List.{take_all}
-use Rattle.mm_page.specs.Leaf.{pasted, IsLeaf, IsTidy, entries_of, entries_at, next_of, place_in, slots, cells, two}
-use Rattle.mm_page.specs.Inside.Rows.{IsRow}
-use Rattle.mm_page.proofs.Writing.{slots-step, entries-length, IsStep}
+use Rattle.mm_page.specs.Leaf.{pasted, entries_at, slots, cells}
+use Rattle.mm_page.proofs.Writing.{slots-step, entries-length}
 use Rattle.mm_page.proofs.change.write_slots.Goals as goal
 
 pub write_two-requires-clause-small : goal.write_two-requires-clause-small

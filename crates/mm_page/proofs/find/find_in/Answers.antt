@@ -1,9 +1,7 @@
-use Rattle.std.proofs.Common.{◌≡◌, ◌+◌, ◌*◌, ◌-◌, ◌/◌, ◌≤◌, ◌<◌, ℕ, suc, List, [], length, take, get_or, true, false, nat_lt, sym, ap, ap₂, ◌∙◌, subst, arith, refl}
-use Rattle.std.specs.Str.{bytes_eq}
-use Rattle.mm_keeper.specs.Entries.{below, rank, has}
-use Rattle.mm_page.specs.Leaf.{IsLeaf, entries_of, number_at, place_in, block}
-use Rattle.mm_page.proofs.Rows.{leaf-entry, leaf-count}
-use Rattle.mm_page.proofs.Finding.{rank-above, rank-most, rank-length, has-in, has-out}
+use Rattle.std.proofs.Common.{◌+◌, ◌-◌, ◌/◌, ◌<◌, length, true, false, sym, ◌∙◌, arith}
+use Rattle.mm_page.specs.Leaf.{entries_of}
+use Rattle.mm_page.proofs.Rows.{leaf-count}
+use Rattle.mm_page.proofs.Finding.{rank-above, rank-most, rank_length}
 use Rattle.mm_page.proofs.find.find_in.Goals as goal
 
 pub halving-init : goal.halving-init
@@ -11,7 +9,7 @@ halving-init c =
     let m = entries_of c.args.bytes.now in
     let k = c.args.key.now in
     let n = c.read_two-count.ensures.number ∙ leaf-count c.args.bytes.now c.requires.leaf in
-    record { low = omega arith; high = omega (arith, n, rank-length k m); most = omega (arith, n) }
+    record { low = omega arith; high = omega (arith, n, rank_length k m); most = omega (arith, n) }
 
 pub halving-preserved-then-is_below : goal.halving-preserved-then-is_below
 halving-preserved-then-is_below c =

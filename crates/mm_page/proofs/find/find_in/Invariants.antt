@@ -1,4 +1,4 @@
-use Rattle.std.proofs.Common.{◌≡◌, ◌≤◌, ◌<◌, ◌+◌, ◌-◌, ℕ, length}
+use Rattle.std.proofs.Common.{◌≤◌, ◌-◌, length}
 use Rattle.mm_keeper.specs.Entries.{rank}
 use Rattle.mm_page.specs.Leaf.{entries_of}
 use Rattle.mm_page.proofs.find.find_in.Given as goal

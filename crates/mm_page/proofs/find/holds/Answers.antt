@@ -1,9 +1,7 @@
-use Rattle.std.proofs.Common.{◌≡◌, ◌+◌, ◌*◌, ◌-◌, ◌/◌, ◌≤◌, ◌<◌, ℕ, suc, List, [], length, take, get_or, true, false, nat_lt, sym, ap, ap₂, ◌∙◌, subst, arith, refl}
+use Rattle.std.proofs.Common.{◌≡◌, ◌-◌, [], get_or, true, false, nat_lt, sym, ap, ◌∙◌, arith}
 use Rattle.std.specs.Str.{bytes_eq}
-use Rattle.mm_keeper.specs.Entries.{below, rank, has}
-use Rattle.mm_page.specs.Leaf.{IsLeaf, entries_of, number_at, place_in, block}
-use Rattle.mm_page.proofs.Rows.{leaf-entry, leaf-count}
-use Rattle.mm_page.proofs.Finding.{rank-above, rank-most, rank-length, has-in, has-out}
+use Rattle.mm_page.specs.Leaf.{entries_of}
+use Rattle.mm_page.proofs.Finding.{has-in, has-out}
 use Rattle.mm_page.proofs.find.holds.Goals as goal
 
 pub returns-then-index-count : goal.returns-then-index-count

@@ -1,8 +1,6 @@
-use Rattle.std.proofs.Common.{◌≡◌, ◌+◌, ◌*◌, ◌-◌, ◌/◌, ◌≤◌, ◌<◌, ℕ, suc, List, [], length, take, get_or, true, false, sym, ap, ap₂, ◌∙◌, subst, arith, refl}
-use Rattle.mm_keeper.specs.Entries.{below, rank, has}
-use Rattle.mm_page.specs.Leaf.{IsLeaf, entries_of, number_at, place_in, block}
-use Rattle.mm_page.proofs.Rows.{leaf-entry, leaf-count}
-use Rattle.mm_page.proofs.Finding.{rank-above, rank-most, rank-length, has-in, has-out}
+use Rattle.std.proofs.Common.{◌+◌, ◌-◌, ap, ap₂, ◌∙◌, arith}
+use Rattle.mm_page.specs.Leaf.{number_at, block}
+use Rattle.mm_page.proofs.Rows.{leaf-entry}
 use Rattle.mm_page.proofs.find.key_in.Goals as goal
 
 pub read_two-at-requires : goal.read_two-at-requires

@@ -1,7 +1,6 @@
-use Rattle.std.proofs.Common.{rules, ◌≡◌, ◌+◌, ◌*◌, ◌≤◌, ◌<◌, ℕ, suc, List, [], length, Option, ◌-◌, sym, ap, ap₂, ◌∙◌, subst, arith, refl}
-use Rattle.mm_page.specs.Leaf.{block, number_at, cell_end, key_at, two, IsLeaf, count_of, start_of}
-use Rattle.mm_page.specs.Rules.{fault_of}
-use Rattle.mm_page.specs.Inside.Rows.{IsCell, AreCells}
+use Rattle.std.proofs.Common.{◌≡◌, ◌+◌, suc, ◌-◌, sym, ap, ap₂, ◌∙◌, subst, arith, refl}
+use Rattle.mm_page.specs.Leaf.{block, cell_end, key_at, two}
+use Rattle.mm_page.specs.Inside.Rows.{AreCells}
 use Rattle.mm_page.proofs.Reading.{fault-step, fault-some, cells-step, fault-found, fault-sort, fault-slots, right-leaf}
 use Rattle.mm_page.proofs.rules.fault_in.Goals as goal
 

@@ -1,4 +1,4 @@
-use Rattle.std.proofs.Common.{◌≡◌, ◌≤◌, ◌<◌, ◌+◌, ◌-◌, ◌*◌, ℕ, suc, length, List, []}
+use Rattle.std.proofs.Common.{◌≡◌, ◌≤◌, ◌-◌, []}
 use Rattle.mm_page.specs.Leaf.{count_of, start_of}
 use Rattle.mm_page.specs.Rules.{fault_from}
 use Rattle.mm_page.specs.Inside.Rows.{AreCells}
