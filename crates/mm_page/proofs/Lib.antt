@@ -1,0 +1,11 @@
+mod Blocks
+mod Order
+mod Reading
+mod Rows
+mod Writing
+mod Moves
+mod Setting
+mod Splitting
+mod Linking
+mod Finding
+mod Valid

@@ -1,0 +1,6 @@
+pub mod Limits
+pub mod Leaf
+pub mod Rules
+pub mod Header
+pub mod Inside
+pub mod Facts
