@@ -1,3 +1,6 @@
 pub mod Causes
 pub mod Moves
 pub mod Memory
+pub mod Moments
+pub mod Disk
+pub mod Facts

@@ -1,6 +1,6 @@
 // What is wrong with a disk's bytes, and what a store over a disk may answer.
+use crate::area::Area;
 use crate::bytes::Bytes;
-use crate::disk::Area;
 use std::alloc::AllocError;
 
 /// The first thing that is wrong with the bytes of a disk.

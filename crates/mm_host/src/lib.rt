@@ -1,22 +1,26 @@
 // The outside: where bytes come from, where they go, and the disk.
 #![tactic(auto)]
 
+mod area;
 mod bytes;
 mod damage;
 mod disk;
 mod failed;
 mod mem_sink;
 mod mem_source;
+mod no_disk;
 mod quiet;
 mod sink;
 mod source;
 
+pub use area::Area;
 pub use bytes::Bytes;
 pub use damage::{Damage, Fault};
-pub use disk::{Area, Disk, NoDisk};
+pub use disk::Disk;
 pub use failed::Failed;
 pub use mem_sink::MemSink;
 pub use mem_source::MemSource;
+pub use no_disk::NoDisk;
 pub use quiet::{QuietSink, QuietSource};
 pub use sink::{Sink, write_all};
 pub use source::Source;

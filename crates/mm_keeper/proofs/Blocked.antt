@@ -1,11 +1,10 @@
 -- Blocks of entries: where a key is sought in them, and what stands at a place.
-use Rattle.std.proofs.Common.{◌≡◌, ℕ, zero, suc, ◌+◌, ◌-◌, ◌≤◌, ◌<◌, Bool, true, false, cond, List, [], ◌∷◌, ◌++◌, length, get_or, take, drop, Option, Some, None, refl, sym, ap, ◌∙◌, subst, arith, append_assoc, true≢false, inl, inr}
+use Rattle.std.proofs.Common.{◌≡◌, ℕ, zero, suc, ◌+◌, ◌-◌, ◌≤◌, ◌<◌, Bool, true, false, cond, List, [], ◌∷◌, ◌++◌, length, get_or, take, drop, Some, refl, sym, ap, ◌∙◌, subst, arith, append_assoc, true≢false, inl, inr}
 use Rattle.std.specs.Prelude.{slice_get, nat_lt}
 use Rattle.std.specs.List.Sorted.{IsPartitionPoint, IsPartitionedBy}
 use Rattle.std.proofs.lemmas.Bool.{cases_lt}
 use Rattle.std.proofs.lemmas.Bool.Decides.{nat_tests}
-use Rattle.std.proofs.lemmas.List.{append-nil}
-use Rattle.mm_keeper.specs.Entries.{Entries, below, IsBelow, Rises, rank, has, lookup, put, without, weight_of}
+use Rattle.mm_keeper.specs.Entries.{Entries, below, IsBelow, Rises, rank, has}
 use Rattle.mm_keeper.specs.Blocks.{Blocks, joined, place_in, AllSome}
 use Rattle.mm_keeper.specs.Inside.Finding.{AllBelow, ends_below, IsAt}
 use Rattle.mm_keeper.proofs.Keys.{below_chain, not_above, from_below, rank-front, rank-back, rank-le, has-front, has-back, AllBelow-app, IsBelow-parts, Rises-parts}

@@ -1,12 +1,12 @@
 -- A change of one block is that change of all entries.
-use Rattle.std.proofs.Common.{◌≡◌, ℕ, zero, suc, ◌+◌, ◌-◌, ◌^◌, ◌≤◌, ◌<◌, inl, inr, Bool, true, false, cond, List, [], ◌∷◌, ◌++◌, length, get_or, set, take, drop, Option, Some, None, option_map, refl, sym, ap, ap₂, ◌∙◌, subst, arith, append_assoc, true≢false}
+use Rattle.std.proofs.Common.{◌≡◌, ℕ, zero, suc, ◌+◌, ◌-◌, ◌^◌, ◌≤◌, ◌<◌, inl, inr, Bool, true, false, cond, List, [], ◌∷◌, ◌++◌, length, get_or, set, take, drop, Option, Some, None, option_map, refl, sym, ap, ap₂, ◌∙◌, subst, arith, append_assoc}
 use Rattle.std.specs.List.{insert, remove}
 use Rattle.std.specs.Str.{bytes_eq}
 use Rattle.std.proofs.lemmas.Slice.Eq.{bytes_eq-Decides}
-use Rattle.mm_keeper.specs.Entries.{Entries, HasRoom, below, IsBelow, Rises, rank, has, lookup, put, without, weight_of}
+use Rattle.mm_keeper.specs.Entries.{Entries, HasRoom, below, IsBelow, rank, has, lookup, put, without, weight_of}
 use Rattle.mm_keeper.specs.Blocks.{Blocks, joined, AllSome}
 use Rattle.mm_keeper.specs.Inside.Finding.{AllBelow}
-use Rattle.mm_keeper.proofs.Keys.{put-front, put-back, without-front, without-back, lookup-front, lookup-back, has-in, lookup-at, rank-le}
+use Rattle.mm_keeper.proofs.Keys.{put-front, put-back, without-front, without-back, lookup-front, lookup-back, has-in, lookup-at}
 use Rattle.mm_keeper.proofs.Blocked.{around}
 
 pub set-joined : (bs : Blocks) (b : ℕ) (m : Entries) → b < length bs → joined (set bs b m) ≡ joined (take b bs) ++ (m ++ joined (drop (suc b) bs))

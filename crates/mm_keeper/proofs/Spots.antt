@@ -1,12 +1,12 @@
 -- The spots before and after one, and the spot of a key.
-use Rattle.std.proofs.Common.{◌≡◌, ℕ, zero, suc, ◌+◌, ◌-◌, ◌≤◌, ◌<◌, ◌⊎◌, Bool, true, false, cond, List, [], ◌∷◌, length, get_or, take, drop, Option, Some, None, refl, sym, ap, ◌∙◌, subst, arith, true≢false, inl, inr}
+use Rattle.std.proofs.Common.{◌≡◌, ℕ, zero, suc, ◌+◌, ◌-◌, ◌≤◌, ◌<◌, ◌⊎◌, Bool, true, false, cond, List, [], ◌∷◌, length, get_or, take, drop, Some, None, refl, sym, ap, ◌∙◌, subst, arith, inl, inr}
 use Rattle.std.specs.Prelude.{nat_lt}
 use Rattle.std.proofs.lemmas.Bool.{cases_lt}
 use Rattle.std.proofs.lemmas.Bool.Decides.{nat_tests}
 use Rattle.mm_keeper.specs.Entries.{Entries, rank, has, index_of, within, one_before, first_from, last_to}
 use Rattle.mm_keeper.specs.Blocks.{Blocks, joined, place_in, AllSome}
 use Rattle.mm_keeper.specs.Inside.Finding.{IsAt}
-use Rattle.mm_keeper.proofs.Blocked.{length-app, place-at, place-first, length-around, length-take_more, none_behind, some_at, take-all, get-past, rank-at, rank-end, has-end}
+use Rattle.mm_keeper.proofs.Blocked.{length-app, place-at, place-first, length-around, length-take_more, none_behind, some_at, take-all, get-past, rank-at, rank-end}
 
 pub within-in : (m : Entries) (p n : ℕ) → p ≡ n → n < length m → Some p ≡ within m n
 within-in m p n e l = ap (λ i. Some i) e ∙ by (nat_lt n (length m)) refl

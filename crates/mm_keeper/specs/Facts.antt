@@ -1,4 +1,3 @@
 -- What follows from the definitions, for the proofs of the crates above.
 pub mod Sorting
 pub mod InRange
-pub mod Moments

@@ -1,5 +1,5 @@
 -- What a keeper shows, and what each of its calls keeps.
-use Rattle.std.specs.Prelude.{◌≡◌, ◌≤◌, ◌+◌, ◌↔◌, ℕ, Bool, true, false, Option, Some, None, Result, Ok, Err, if◌then◌else◌}
+use Rattle.std.specs.Prelude.{◌≡◌, ◌≤◌, ◌+◌, ◌↔◌, ℕ, Bool, true, Option, Some, None, Result, Ok, Err, if◌then◌else◌}
 use Rattle.mm_host.specs.Causes.{Rose}
 use Rattle.mm_host.specs.declared.damage.Damage.{Damage}
 use Rattle.mm_host.specs.declared.damage.Fault.{Fault}

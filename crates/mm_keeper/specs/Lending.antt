@@ -1,5 +1,5 @@
 -- A lending call's error as a fault.
-use Rattle.std.specs.Prelude.{◌≡◌, ℕ, Option, Some, None, Result, Ok, Err}
+use Rattle.std.specs.Prelude.{Option, Some, None, Result, Ok, Err}
 use Rattle.mm_host.specs.declared.damage.Damage.TheVariants as damage
 use Rattle.mm_host.specs.declared.damage.Fault.{Fault}
 use Rattle.mm_host.specs.declared.damage.Fault.TheVariants as fault
@@ -8,6 +8,7 @@ use Rattle.mm_keeper.specs.declared.lend_error.LendError.TheVariants as lend
 
 abbrev pub fault_from : LendError → Fault
 fault_from lend.DiskFault = fault.DiskFault
+fault_from (lend.Cut place at needed held) = fault.Damaged (damage.Cut place at needed held)
 fault_from (lend.Page page why stored due) = fault.Damaged (damage.Page page why stored due)
 fault_from lend.Spent = fault.Spent
 fault_from lend.Memory = fault.Memory

@@ -1,7 +1,6 @@
 pub mod Entries
 pub mod Blocks
 pub mod Places
-pub mod Moments
 pub mod Keeping
 pub mod Lending
 pub mod Inside

@@ -1,5 +1,5 @@
 // Some entries that stand next to each other, in a vector.
-ghost use Rattle.std.specs.Prelude.{◌≡◌, ◌≤◌, ◌<◌, ◌++◌, true, [], length, option_map, OnOk, OnErr, IfOk, vec_capacity};
+ghost use Rattle.std.specs.Prelude.{◌≡◌, ◌≤◌, ◌<◌, ◌++◌, true, [], length, option_map, OnOk, OnErr, IfOk, IfSome, vec_capacity};
 ghost use Rattle.mm_keeper.specs.Entries.{Rises, rank, has, lookup, put};
 ghost use Rattle.mm_keeper.specs.Inside.Finding.{ends_below};
 
@@ -71,6 +71,7 @@ pub(crate) fn place_in(items: &mut Vec<Item>, entry: Item) -> Result<Option<Item
     requires { Rises items.old.items }
     ensures ok { OnOk result (items.new.items ≡ put items.old.items entry.0 entry.1) }
     ensures before { IfOk result (λ before. option_map (λ e. e.1) before ≡ lookup items.old.items entry.0) }
+    ensures key { IfOk result (λ before. IfSome before (λ e. e.0 ≡ entry.0)) }
     ensures err { OnErr result (items.new.items ≡ items.old.items) }
 {
     let at = rank_of(items.as_slice(), entry.key());

@@ -4,8 +4,8 @@ ghost use Rattle.std.specs.declared.option.Option.{Option};
 ghost use Rattle.std.specs.Borrow.{follows_so, sem};
 ghost use mathlib.Core.Option.{none};
 ghost use mir.Syntax.{named};
+ghost use Rattle.mm_host.specs.Moments.{LeavesAsBefore};
 ghost use Rattle.mm_keeper.specs.Entries.{within, one_before, first_from, last_to};
-ghost use Rattle.mm_keeper.specs.Moments.{LeavesAsBefore};
 ghost use Rattle.mm_keeper.specs.Keeping.{Keeps, WritesNothing, fault_of};
 ghost use Rattle.mm_keeper.specs.Lending.{lend_fault_of};
 

@@ -4,8 +4,8 @@ ghost use Rattle.std.specs.declared.option.Option.{Option};
 ghost use Rattle.std.specs.Borrow.{follows_so, sem};
 ghost use mathlib.Core.Option.{none};
 ghost use Rattle.mm_host.specs.Causes.{Rose};
+ghost use Rattle.mm_host.specs.Moments.{LeavesOnly, LeavesAsBefore};
 ghost use Rattle.mm_keeper.specs.Entries.{Entries, IsSorted, HasRoom, has, put, without, index_of, within, one_before, first_from, last_to, weight_of};
-ghost use Rattle.mm_keeper.specs.Moments.{LeavesOnly, LeavesAsBefore};
 ghost use Rattle.mm_keeper.specs.Keeping.{Seen, Written, Keeps, WritesNothing, fault_of};
 ghost use Rattle.mm_keeper.specs.Lending.{lend_fault_of};
 

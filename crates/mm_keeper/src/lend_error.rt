@@ -2,7 +2,7 @@
 ghost use Rattle.std.specs.Prelude.{◌≡◌};
 ghost use Rattle.mm_keeper.specs.Lending.{fault_from};
 
-use mm_host::{Damage, Fault};
+use mm_host::{Area, Damage, Fault};
 
 /// Why a call that lends gave up. It owns no memory, so that the lender can be followed through it; `into_fault`
 /// makes a fault of it.
@@ -10,6 +10,13 @@ use mm_host::{Damage, Fault};
 pub enum LendError {
     /// The disk failed.
     DiskFault,
+    /// A field of `needed` bytes begins at `at`, and only `held` are there.
+    Cut {
+        place: Area,
+        at: u64,
+        needed: u64,
+        held: u64,
+    },
     /// The page breaks the rule of this number.
     Page {
         page: u64,
@@ -30,6 +37,17 @@ impl LendError {
     {
         match self {
             LendError::DiskFault => Fault::DiskFault,
+            LendError::Cut {
+                place,
+                at,
+                needed,
+                held,
+            } => Fault::Damaged(Damage::Cut {
+                place,
+                at,
+                needed,
+                held,
+            }),
             LendError::Page {
                 page,
                 why,

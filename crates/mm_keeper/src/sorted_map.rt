@@ -1,5 +1,5 @@
 // A sorted map in memory, in blocks of entries.
-ghost use Rattle.std.specs.Prelude.{◌≡◌, ◌≤◌, ◌<◌, ◌+◌, ◌-◌, ◌^◌, ◌⊎◌, ℕ, suc, [], ◌∷◌, length, take, drop, Some, option_map, slice_get, slice_index_or, true, remove, IfOk, OnOk, OnErr};
+ghost use Rattle.std.specs.Prelude.{◌≡◌, ◌≤◌, ◌<◌, ◌+◌, ◌-◌, ◌^◌, ◌⊎◌, ℕ, suc, [], ◌∷◌, length, take, drop, Some, option_map, slice_get, slice_index_or, true, remove, IfOk, IfSome, OnOk, OnErr};
 ghost use Rattle.mm_keeper.specs.Entries.{HasRoom, IsSorted, Rises, IsBelow, rank, has, lookup, put, without, index_of, within, one_before, first_from, last_to, weight_of};
 ghost use Rattle.mm_keeper.specs.Blocks.{joined, AllSome, IsMap};
 ghost use Rattle.mm_keeper.specs.Places.{place_of};
@@ -209,6 +209,7 @@ fn put_in(blocks: &mut Vec<Block>, entry: Item) -> Result<Option<Item>, AllocErr
     requires some { AllSome blocks.old.items }
     ensures ok { OnOk result (joined blocks.new.items ≡ put (joined blocks.old.items) entry.0 entry.1) }
     ensures before { IfOk result (λ before. option_map (λ e. e.1) before ≡ lookup (joined blocks.old.items) entry.0) }
+    ensures key { IfOk result (λ before. IfSome before (λ e. e.0 ≡ entry.0)) }
     ensures err { OnErr result (joined blocks.new.items ≡ joined blocks.old.items) }
     ensures some { AllSome blocks.new.items }
 {
@@ -264,6 +265,7 @@ fn put_weighed(
     requires room { HasRoom (joined blocks.old.items) key.now value.now }
     ensures ok { OnOk result (joined blocks.new.items ≡ put (joined blocks.old.items) key.now value.now) }
     ensures before { IfOk result (λ before. option_map (λ e. e.1) before ≡ lookup (joined blocks.old.items) key.now) }
+    ensures key { IfOk result (λ before. IfSome before (λ e. e.0 ≡ key.now)) }
     ensures err { OnErr result (joined blocks.new.items ≡ joined blocks.old.items) }
     ensures sound { IsMap blocks.new.items weight.new }
 {
@@ -384,6 +386,7 @@ impl SortedMap {
         requires { HasRoom (joined self.old) key.now value.now }
         ensures ok { OnOk result (joined self.new ≡ put (joined self.old) key.now value.now) }
         ensures before { IfOk result (λ before. option_map (λ e. e.1) before ≡ lookup (joined self.old) key.now) }
+        ensures key { IfOk result (λ before. IfSome before (λ e. e.0 ≡ key.now)) }
         ensures err { OnErr result (joined self.new ≡ joined self.old) }
         ensures sorted { IsSorted (joined self.new) }
     {

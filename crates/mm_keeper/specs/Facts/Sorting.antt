@@ -1,8 +1,8 @@
 -- That a map is sorted has one proof at most.
-use Rattle.std.specs.Prelude.{◌≡◌, ℕ, List, [], ◌∷◌, true, ⊤}
+use Rattle.std.specs.Prelude.{ℕ, List, [], ◌∷◌}
 use Rattle.std.specs.Coded.{×_prop, Unit-prop}
 use mathlib.Core.Bool.{Bool-set}
-use Rattle.mm_keeper.specs.Entries.{Entries, below, IsBelow, Rises, IsSorted}
+use Rattle.mm_keeper.specs.Entries.{Entries, IsBelow, Rises, IsSorted}
 
 pub IsBelow-prop : (k : List ℕ) (m : Entries) → IsProp (IsBelow k m)
 IsBelow-prop k [] = Unit-prop

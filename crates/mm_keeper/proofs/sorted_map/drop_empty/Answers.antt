@@ -1,9 +1,5 @@
-use Rattle.std.proofs.Common.{◌≡◌, ◌<◌, ◌≤◌, ◌+◌, ◌-◌, ℕ, suc, List, length, get_or, take, drop, [], Some, None, sym, ap, ap₂, ◌∙◌, subst, arith, refl, true, false, option_map}
-use Rattle.std.specs.Prelude.{slice_set}
-use Rattle.std.specs.List.{insert, remove}
-use Rattle.mm_keeper.specs.Entries.{put, has, IsBelow, Rises, without, rank, lookup}
-use Rattle.mm_keeper.specs.Blocks.{joined, AllSome}
-use Rattle.mm_keeper.specs.Inside.Finding.{AllBelow, IsAt}
+use Rattle.std.proofs.Common.{◌≡◌, length, get_or, [], ap, ◌∙◌, arith}
+use Rattle.mm_keeper.specs.Blocks.{joined}
 use Rattle.mm_keeper.proofs.Blocked.{get-any}
 use Rattle.mm_keeper.proofs.Changing.{remove-joined, some-all}
 use Rattle.mm_keeper.proofs.sorted_map.drop_empty.Goals as goal

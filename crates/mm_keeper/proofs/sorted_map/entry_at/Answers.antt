@@ -1,5 +1,4 @@
-use Rattle.std.proofs.Common.{◌≡◌, ◌<◌, ◌≤◌, ◌+◌, ◌-◌, ℕ, suc, length, get_or, [], Some, None, sym, ap, ap₂, ◌∙◌, subst, arith, refl}
-use Rattle.mm_keeper.specs.Blocks.{joined, place_in}
+use Rattle.std.proofs.Common.{◌≡◌, ◌<◌, length, get_or, [], Some, sym, ap, ap₂, ◌∙◌, subst}
 use Rattle.mm_keeper.proofs.Blocked.{get-any, entry-at}
 use Rattle.mm_keeper.proofs.sorted_map.entry_at.Goals as goal
 

@@ -1,4 +1,4 @@
-use Rattle.std.proofs.Common.{◌≡◌, ◌<◌, ◌≤◌, ◌+◌, ◌-◌, ℕ, suc, length, get_or, [], Some, None, sym, ap, ◌∙◌, subst, arith, refl}
+use Rattle.std.proofs.Common.{sym, ◌∙◌}
 use Rattle.mm_keeper.specs.Blocks.{joined}
 use Rattle.mm_keeper.proofs.Spots.{spot-rank, last-some, last-before, spot-index}
 use Rattle.mm_keeper.proofs.sorted_map.find_down.Goals as goal

@@ -1,4 +1,4 @@
-use Rattle.std.proofs.Common.{◌≡◌, ◌<◌, length, get_or, [], sym, ap, ◌∙◌, subst, arith}
+use Rattle.std.proofs.Common.{◌<◌, length, [], sym, ap, ◌∙◌, subst, arith}
 use Rattle.mm_keeper.specs.Entries.{Rises, has}
 use Rattle.mm_keeper.proofs.Blocked.{has-end, has-at, rises_at, get-any}
 use Rattle.mm_keeper.proofs.sorted_map.locate.Goals as goal

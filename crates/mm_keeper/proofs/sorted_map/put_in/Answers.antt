@@ -1,7 +1,7 @@
-use Rattle.std.proofs.Common.{◌≡◌, ◌<◌, ◌≤◌, ◌+◌, ◌-◌, ℕ, suc, length, get_or, take, drop, [], Some, None, sym, ap, ◌∙◌, subst, arith, refl, true, false, option_map}
+use Rattle.std.proofs.Common.{◌≡◌, ◌<◌, suc, length, get_or, take, drop, [], sym, ap, ◌∙◌, subst}
 use Rattle.std.specs.Prelude.{slice_set}
-use Rattle.mm_keeper.specs.Entries.{put, has, IsBelow, Rises, without, rank, lookup}
-use Rattle.mm_keeper.specs.Blocks.{joined, AllSome}
+use Rattle.mm_keeper.specs.Entries.{put, IsBelow, Rises, lookup}
+use Rattle.mm_keeper.specs.Blocks.{joined}
 use Rattle.mm_keeper.specs.Inside.Finding.{AllBelow}
 use Rattle.mm_keeper.proofs.Blocked.{get-any, some_at, rises_at}
 use Rattle.mm_keeper.proofs.Changing.{put-joined, lookup-joined, set-same, some-set, put-some}

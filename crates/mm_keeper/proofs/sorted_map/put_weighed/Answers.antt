@@ -1,5 +1,5 @@
-use Rattle.std.proofs.Common.{◌≡◌, ◌<◌, ◌≤◌, ◌+◌, ◌-◌, ◌^◌, ℕ, List, length, Some, None, sym, ap, ap₂, ◌∙◌, subst, arith, option_map}
-use Rattle.mm_keeper.specs.Entries.{put, without, Rises, lookup, weight_of}
+use Rattle.std.proofs.Common.{◌≡◌, ◌<◌, ◌+◌, ◌-◌, ◌^◌, ℕ, List, length, Some, None, sym, ap, ap₂, ◌∙◌, subst, arith, option_map}
+use Rattle.mm_keeper.specs.Entries.{put, Rises, lookup, weight_of}
 use Rattle.mm_keeper.specs.Blocks.{joined}
 use Rattle.mm_keeper.proofs.Keys.{Rises-put}
 use Rattle.mm_keeper.proofs.Changing.{weigh-held, weigh-new}

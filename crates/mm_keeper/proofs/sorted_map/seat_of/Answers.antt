@@ -1,4 +1,4 @@
-use Rattle.std.proofs.Common.{◌≡◌, ◌<◌, ◌≤◌, ◌+◌, ◌-◌, ℕ, suc, length, get_or, [], Some, None, sym, ap, ◌∙◌, subst, arith, refl}
+use Rattle.std.proofs.Common.{arith}
 use Rattle.mm_keeper.proofs.Blocked.{last_seat}
 use Rattle.mm_keeper.proofs.sorted_map.seat_of.Goals as goal
 

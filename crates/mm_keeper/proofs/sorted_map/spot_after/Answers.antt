@@ -1,4 +1,4 @@
-use Rattle.std.proofs.Common.{◌≡◌, ◌<◌, ◌≤◌, ◌+◌, ◌-◌, ℕ, suc, length, get_or, [], Some, None, sym, ap, ◌∙◌, subst, arith, refl}
+use Rattle.std.proofs.Common.{◌≡◌, ◌+◌, length, get_or, [], ap, ◌∙◌, arith}
 use Rattle.mm_keeper.proofs.Blocked.{get-any}
 use Rattle.mm_keeper.proofs.Spots.{after-inside, after-block, after-none}
 use Rattle.mm_keeper.proofs.sorted_map.spot_after.Goals as goal

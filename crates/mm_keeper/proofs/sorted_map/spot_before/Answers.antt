@@ -1,4 +1,4 @@
-use Rattle.std.proofs.Common.{◌≡◌, ◌<◌, ◌≤◌, ◌+◌, ◌-◌, ℕ, suc, length, get_or, [], Some, None, sym, ap, ◌∙◌, subst, arith, refl}
+use Rattle.std.proofs.Common.{◌≡◌, ◌<◌, ◌-◌, length, get_or, [], Some, sym, ap, ◌∙◌, arith}
 use Rattle.mm_keeper.specs.Entries.{one_before}
 use Rattle.mm_keeper.specs.Blocks.{place_in}
 use Rattle.mm_keeper.proofs.Blocked.{get-any, some_at}

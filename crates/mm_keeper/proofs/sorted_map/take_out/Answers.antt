@@ -1,9 +1,9 @@
-use Rattle.std.proofs.Common.{◌≡◌, ◌<◌, ◌≤◌, ◌+◌, ◌-◌, ℕ, suc, List, length, get_or, take, drop, [], Some, None, sym, ap, ap₂, ◌∙◌, subst, arith, refl, true, false, option_map}
+use Rattle.std.proofs.Common.{◌≡◌, ◌<◌, ℕ, List, length, get_or, [], sym, ap, ap₂, ◌∙◌, subst, true, false, option_map}
 use Rattle.std.specs.Prelude.{slice_set}
-use Rattle.std.specs.List.{insert, remove}
-use Rattle.mm_keeper.specs.Entries.{put, has, IsBelow, Rises, without, rank, lookup}
-use Rattle.mm_keeper.specs.Blocks.{joined, AllSome}
-use Rattle.mm_keeper.specs.Inside.Finding.{AllBelow, IsAt}
+use Rattle.std.specs.List.{remove}
+use Rattle.mm_keeper.specs.Entries.{has, without, rank}
+use Rattle.mm_keeper.specs.Blocks.{joined}
+use Rattle.mm_keeper.specs.Inside.Finding.{IsAt}
 use Rattle.mm_keeper.proofs.Keys.{without-at, lookup-at}
 use Rattle.mm_keeper.proofs.Blocked.{get-any, has-at}
 use Rattle.mm_keeper.proofs.Changing.{some-without, without-joined, lookup-joined, taken}

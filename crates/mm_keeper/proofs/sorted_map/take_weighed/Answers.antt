@@ -1,5 +1,5 @@
-use Rattle.std.proofs.Common.{◌≡◌, ◌<◌, ◌≤◌, ◌+◌, ◌-◌, ◌^◌, ℕ, List, length, Some, None, sym, ap, ap₂, ◌∙◌, subst, arith, option_map}
-use Rattle.mm_keeper.specs.Entries.{put, without, Rises, lookup, weight_of}
+use Rattle.std.proofs.Common.{◌≡◌, ◌-◌, length, sym, ap, ◌∙◌, subst, arith}
+use Rattle.mm_keeper.specs.Entries.{without, Rises, lookup, weight_of}
 use Rattle.mm_keeper.specs.Blocks.{joined}
 use Rattle.mm_keeper.proofs.Keys.{Rises-without}
 use Rattle.mm_keeper.proofs.Changing.{of-some, of-none, weight-without, without-none}

@@ -1,5 +1,5 @@
-use Rattle.std.proofs.Common.{◌≡◌, ◌++◌, ◌∷◌, [], List, ℕ, Some, None, sym, ap, ap₂, ◌∙◌, subst, true, false}
-use Rattle.mm_keeper.specs.Entries.{IsSorted, Rises, put, without, has, lookup}
+use Rattle.std.proofs.Common.{◌≡◌, ◌++◌, ◌∷◌, [], sym, ap₂, ◌∙◌, subst}
+use Rattle.mm_keeper.specs.Entries.{Rises, lookup}
 use Rattle.mm_keeper.specs.Blocks.{joined}
 use Rattle.mm_keeper.specs.Inside.Olds.{before_all}
 use Rattle.mm_keeper.proofs.Keys.{Rises-put}

@@ -1,5 +1,4 @@
-use Rattle.std.proofs.Common.{◌≡◌, ◌<◌, ◌≤◌, ◌+◌, ◌-◌, ℕ, suc, length, get_or, [], Some, None, sym, ap, ◌∙◌, subst, arith, refl, inr, ◌⊎◌}
-use Rattle.mm_keeper.specs.Blocks.{joined, place_in}
+use Rattle.std.proofs.Common.{◌≡◌, ◌<◌, ◌≤◌, length, get_or, [], sym, ◌∙◌, subst, arith, inr, ◌⊎◌}
 use Rattle.mm_keeper.proofs.Blocked.{place-in_range}
 use Rattle.mm_keeper.proofs.sorted_map.SortedMap.before.Goals as goal
 
