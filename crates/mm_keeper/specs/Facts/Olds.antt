@@ -7,7 +7,7 @@ use Rattle.std.proofs.lemmas.Map.Text.{is_eq-slice_cmp}
 use Rattle.std.proofs.lemmas.Slice.Eq.{bytes_eq-Decides}
 use Rattle.mm_keeper.specs.Entries.{Entries, below, IsBelow, Rises, lookup, put, without}
 use Rattle.mm_keeper.specs.Inside.Olds.{put_back, before_all}
-use Rattle.mm_keeper.proofs.Keys.{put-back}
+use Rattle.mm_keeper.specs.Facts.Keys.{put-back}
 
 bytes_same : (k : List ℕ) → bytes_eq k k ≡ true
 bytes_same k = (bytes_eq-Decides k k).1 refl

@@ -6,8 +6,8 @@ use Rattle.std.proofs.lemmas.Slice.Eq.{bytes_eq-Decides}
 use Rattle.mm_keeper.specs.Entries.{Entries, HasRoom, below, IsBelow, rank, has, lookup, put, without, weight_of}
 use Rattle.mm_keeper.specs.Blocks.{Blocks, joined, AllSome}
 use Rattle.mm_keeper.specs.Inside.Finding.{AllBelow}
-use Rattle.mm_keeper.proofs.Keys.{put-front, put-back, without-front, without-back, lookup-front, lookup-back, has-in, lookup-at}
-use Rattle.mm_keeper.proofs.Blocked.{around}
+use Rattle.mm_keeper.specs.Facts.Keys.{put-front, put-back, without-front, without-back, lookup-front, lookup-back, has-in, lookup-at}
+use Rattle.mm_keeper.specs.Facts.Blocked.{around}
 
 pub set-joined : (bs : Blocks) (b : ℕ) (m : Entries) → b < length bs → joined (set bs b m) ≡ joined (take b bs) ++ (m ++ joined (drop (suc b) bs))
 set-joined [] b m l = absurd (omega (arith, l))

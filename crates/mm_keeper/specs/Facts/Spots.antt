@@ -6,7 +6,7 @@ use Rattle.std.proofs.lemmas.Bool.Decides.{nat_tests}
 use Rattle.mm_keeper.specs.Entries.{Entries, rank, has, index_of, within, one_before, first_from, last_to}
 use Rattle.mm_keeper.specs.Blocks.{Blocks, joined, place_in, AllSome}
 use Rattle.mm_keeper.specs.Inside.Finding.{IsAt}
-use Rattle.mm_keeper.proofs.Blocked.{length-app, place-at, place-first, length-around, length-take_more, none_behind, some_at, take-all, get-past, rank-at, rank-end}
+use Rattle.mm_keeper.specs.Facts.Blocked.{length-app, place-at, place-first, length-around, length-take_more, none_behind, some_at, take-all, get-past, rank-at, rank-end}
 
 pub within-in : (m : Entries) (p n : ℕ) → p ≡ n → n < length m → Some p ≡ within m n
 within-in m p n e l = ap (λ i. Some i) e ∙ by (nat_lt n (length m)) refl

@@ -7,11 +7,11 @@ use Rattle.std.proofs.lemmas.Bool.Decides.{nat_tests}
 use Rattle.mm_keeper.specs.Entries.{Entries, below, IsBelow, Rises, rank, has}
 use Rattle.mm_keeper.specs.Blocks.{Blocks, joined, place_in, AllSome}
 use Rattle.mm_keeper.specs.Inside.Finding.{AllBelow, ends_below, IsAt}
-use Rattle.mm_keeper.proofs.Keys.{below_chain, not_above, from_below, rank-front, rank-back, rank-le, has-front, has-back, AllBelow-app, IsBelow-parts, Rises-parts}
+use Rattle.mm_keeper.specs.Facts.Keys.{below_chain, not_above, from_below, rank-front, rank-back, rank_at_most, has-front, has-back, AllBelow-app, IsBelow-parts, Rises-parts}
 
 -- ---- the rank, as a point that parts the entries
 
-rank_passes : (k : List ℕ) (m : Entries) (j : ℕ) (d : List ℕ × List ℕ) → j < rank m k → below (get_or m j d).0 k ≡ true
+pub rank_passes : (k : List ℕ) (m : Entries) (j : ℕ) (d : List ℕ × List ℕ) → j < rank m k → below (get_or m j d).0 k ≡ true
 rank_passes k [] j d l = absurd (omega (arith, l))
 rank_passes k (e ∷ m) j d l = by (below e.0 k) refl (λ i h. rank_passes k m i d h) j l
   where
@@ -20,7 +20,7 @@ rank_passes k (e ∷ m) j d l = by (below e.0 k) refl (λ i h. rank_passes k m i
     by true q rest (suc i) h = rest i (omega (arith, h))
     by false q rest i h = absurd (omega (arith, h))
 
-rank_stops : (k : List ℕ) (m : Entries) (d : List ℕ × List ℕ) → rank m k < length m → below (get_or m (rank m k) d).0 k ≡ false
+pub rank_stops : (k : List ℕ) (m : Entries) (d : List ℕ × List ℕ) → rank m k < length m → below (get_or m (rank m k) d).0 k ≡ false
 rank_stops k [] d l = absurd (omega (arith, l))
 rank_stops k (e ∷ m) d l = by (below e.0 k) refl (λ h. rank_stops k m d h) l
   where
@@ -31,14 +31,14 @@ rank_stops k (e ∷ m) d l = by (below e.0 k) refl (λ h. rank_stops k m d h) l
 pub rank_is : (k : List ℕ) (m : Entries) (i : ℕ) → IsPartitionPoint (λ (e : List ℕ × List ℕ). below e.0 k ≡ true) (λ e. below e.0 k ≡ false) m i → i ≤ length m → i ≡ rank m k
 rank_is k [] i parted h = omega (arith, h)
 rank_is k (e ∷ m) i parted h = elim (cases_lt i (rank (e ∷ m) k)) [
-  | inl q ↦ absurd (true≢false (sym (rank_passes k (e ∷ m) i e q) ∙ parted.1 i e (omega arith) (omega (arith, q, rank-le k (e ∷ m)))))
+  | inl q ↦ absurd (true≢false (sym (rank_passes k (e ∷ m) i e q) ∙ parted.1 i e (omega arith) (omega (arith, q, rank_at_most k (e ∷ m)))))
   | inr q ↦ elim (cases_lt (rank (e ∷ m) k) i) [
     | inl r ↦ absurd (true≢false (sym (parted.0 (rank (e ∷ m) k) e (omega arith) r) ∙ rank_stops k (e ∷ m) e (omega (arith, r, h))))
     | inr r ↦ omega (arith, q, r)
   ]
 ]
 
-IsBelow-at : (a : List ℕ) (m : Entries) (j : ℕ) (d : List ℕ × List ℕ) → IsBelow a m → j < length m → below a (get_or m j d).0 ≡ true
+pub IsBelow-at : (a : List ℕ) (m : Entries) (j : ℕ) (d : List ℕ × List ℕ) → IsBelow a m → j < length m → below a (get_or m j d).0 ≡ true
 IsBelow-at a [] j d h l = absurd (omega (arith, l))
 IsBelow-at a (e ∷ m) zero d h l = h.0
 IsBelow-at a (e ∷ m) (suc j) d h l = IsBelow-at a m j d h.1 (omega (arith, l))

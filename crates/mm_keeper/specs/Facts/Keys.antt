@@ -171,9 +171,9 @@ Rises-without k (e ∷ m) i = by (below e.0 k) (bytes_eq e.0 k) (Rises-without k
 
 -- ---- by place
 
-pub rank-le : (k : List ℕ) (m : Entries) → rank m k ≤ length m
-rank-le k [] = omega arith
-rank-le k (e ∷ m) = by (below e.0 k) (rank-le k m)
+pub rank_at_most : (k : List ℕ) (m : Entries) → rank m k ≤ length m
+rank_at_most k [] = omega arith
+rank_at_most k (e ∷ m) = by (below e.0 k) (rank_at_most k m)
   where
     by : (b : Bool) → rank m k ≤ length m → cond b (suc (rank m k)) 0 ≤ suc (length m)
     by true h = omega (arith, h)
