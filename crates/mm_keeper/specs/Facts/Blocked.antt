@@ -62,7 +62,7 @@ ends_at k (e ∷ (x ∷ m)) d l =
     let q : suc (suc (length m) - 1) ≡ suc (suc (length m)) - 1 = omega arith in
     ends_at k (x ∷ m) d (omega arith) ∙ ap (λ i. below (get_or (e ∷ (x ∷ m)) i d).0 k) q
 
-ends_all : (k : List ℕ) (m : Entries) → Rises m → ends_below m k ≡ true → AllBelow m k
+pub ends_all : (k : List ℕ) (m : Entries) → Rises m → ends_below m k ≡ true → AllBelow m k
 ends_all k [] r h = tt
 ends_all k (e ∷ []) r h = (h, tt)
 ends_all k (e ∷ (x ∷ m)) r h =
@@ -126,7 +126,7 @@ back_at k [] i r l h = absurd (omega (arith, l))
 back_at k (m ∷ bs) zero r l h = ends_not k m (joined bs) r h
 back_at k (m ∷ bs) (suc i) r l h = back_at k bs i (Rises-parts m (joined bs) r).1 (omega (arith, l)) h
 
-drop-past : (bs : Blocks) (i : ℕ) → length bs ≤ suc i → joined (drop (suc i) bs) ≡ []
+pub drop-past : (bs : Blocks) (i : ℕ) → length bs ≤ suc i → joined (drop (suc i) bs) ≡ []
 drop-past [] i l = refl
 drop-past (m ∷ []) zero l = refl
 drop-past (m ∷ (n ∷ bs)) zero l = absurd (omega (arith, l))
@@ -217,16 +217,16 @@ place-in_range (m ∷ bs) (suc b) i l =
     let rest = place-in_range bs b i (omega (arith, l, length-app m (joined bs))) in
     (omega (arith, rest.0), rest.1)
 
-get-front : (xs ys : Entries) (i : ℕ) → i < length xs → slice_get (xs ++ ys) i ≡ slice_get xs i
+pub get-front : (xs ys : Entries) (i : ℕ) → i < length xs → slice_get (xs ++ ys) i ≡ slice_get xs i
 get-front [] ys i l = absurd (omega (arith, l))
 get-front (e ∷ xs) ys zero l = refl
 get-front (e ∷ xs) ys (suc i) l = get-front xs ys i (omega (arith, l))
 
-get-back : (xs ys : Entries) (i : ℕ) → slice_get (xs ++ ys) (length xs + i) ≡ slice_get ys i
+pub get-back : (xs ys : Entries) (i : ℕ) → slice_get (xs ++ ys) (length xs + i) ≡ slice_get ys i
 get-back [] ys i = let q : 0 + i ≡ i = omega arith in ap (λ n. slice_get ys n) q
 get-back (e ∷ xs) ys i = let q : suc (length xs) + i ≡ suc (length xs + i) = omega arith in ap (λ n. slice_get (e ∷ (xs ++ ys)) n) q ∙ get-back xs ys i
 
-get_or-get : (m : Entries) (i : ℕ) (d : List ℕ × List ℕ) → i < length m → slice_get m i ≡ Some (get_or m i d)
+pub get_or-get : (m : Entries) (i : ℕ) (d : List ℕ × List ℕ) → i < length m → slice_get m i ≡ Some (get_or m i d)
 get_or-get [] i d l = absurd (omega (arith, l))
 get_or-get (e ∷ m) zero d l = refl
 get_or-get (e ∷ m) (suc i) d l = get_or-get m i d (omega (arith, l))
@@ -259,11 +259,11 @@ pub rank-at : (k : List ℕ) (bs : Blocks) (i : ℕ) → IsAt bs k i → i < len
 rank-at k bs i a l =
     ap (λ m. rank m k) (sym (around bs i l)) ∙ rank-front k (joined (take i bs)) _ a.front ∙ ap (λ n. length (joined (take i bs)) + n) (rank-back k (get_or bs i []) _ a.back)
 
-all_rank : (k : List ℕ) (m : Entries) → AllBelow m k → rank m k ≡ length m
+pub all_rank : (k : List ℕ) (m : Entries) → AllBelow m k → rank m k ≡ length m
 all_rank k [] h = refl
 all_rank k (e ∷ m) h = rw (h.0) (ap (λ n. suc n) (all_rank k m h.1))
 
-all_has : (k : List ℕ) (m : Entries) → AllBelow m k → has m k ≡ false
+pub all_has : (k : List ℕ) (m : Entries) → AllBelow m k → has m k ≡ false
 all_has k [] h = refl
 all_has k (e ∷ m) h = rw (h.0) (all_has k m h.1)
 
@@ -277,11 +277,11 @@ pub has-at : (k : List ℕ) (bs : Blocks) (i : ℕ) → IsAt bs k i → i < leng
 has-at k bs i a l =
     ap (λ m. has m k) (sym (around bs i l)) ∙ has-front k (joined (take i bs)) _ a.front ∙ has-back k (get_or bs i []) _ a.back
 
-AllBelow-parts : (k : List ℕ) (xs ys : Entries) → AllBelow (xs ++ ys) k → AllBelow xs k
+pub AllBelow-parts : (k : List ℕ) (xs ys : Entries) → AllBelow (xs ++ ys) k → AllBelow xs k
 AllBelow-parts k [] ys h = tt
 AllBelow-parts k (e ∷ xs) ys h = (h.0, AllBelow-parts k xs ys h.1)
 
-front_less : (k : List ℕ) (bs : Blocks) (i : ℕ) → AllBelow (joined bs) k → AllBelow (joined (take i bs)) k
+pub front_less : (k : List ℕ) (bs : Blocks) (i : ℕ) → AllBelow (joined bs) k → AllBelow (joined (take i bs)) k
 front_less k [] zero h = tt
 front_less k [] (suc i) h = tt
 front_less k (m ∷ bs) zero h = tt

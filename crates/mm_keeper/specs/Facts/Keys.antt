@@ -62,7 +62,7 @@ pub rank-front : (k : List ℕ) (xs m : Entries) → AllBelow xs k → rank (xs 
 rank-front k [] m h = omega arith
 rank-front k (e ∷ xs) m h = rw (h.0) (grind (arith, rank-front k xs m h.1))
 
-no_more : (a b : List ℕ) → below a b ≡ true → bytes_eq b a ≡ false
+pub no_more : (a b : List ℕ) → below a b ≡ true → bytes_eq b a ≡ false
 no_more a b h = sym (is_eq-slice_cmp b a) ∙ by (slice_cmp nat_cmp b a) (nat_list_cmp_total.antisymm b a ∙ ap ordering_reverse (is_less _ h))
   where
     by : (o : Ordering) → o ≡ Greater → is_eq o ≡ false
@@ -136,7 +136,7 @@ IsBelow-without a k (e ∷ m) i = by (below e.0 k) (bytes_eq e.0 k) (IsBelow-wit
     by false false t = i
 
 -- where neither is below the other they are one
-no_order : (a b : List ℕ) → below a b ≡ false → bytes_eq a b ≡ false → below b a ≡ true
+pub no_order : (a b : List ℕ) → below a b ≡ false → bytes_eq a b ≡ false → below b a ≡ true
 no_order a b h i = by (slice_cmp nat_cmp a b) refl h (is_eq-slice_cmp a b ∙ i)
   where
     by : (o : Ordering) → slice_cmp nat_cmp a b ≡ o → is_lt o ≡ false → is_eq o ≡ false → below b a ≡ true
@@ -148,7 +148,7 @@ pub IsBelow-less : (a b : List ℕ) (m : Entries) → below a b ≡ true → IsB
 IsBelow-less a b [] h i = tt
 IsBelow-less a b (e ∷ m) h i = (below_chain a b e.0 h i.0, IsBelow-less a b m h i.1)
 
-IsBelow-same : (a b : List ℕ) (m : Entries) → bytes_eq b a ≡ true → IsBelow b m → IsBelow a m
+pub IsBelow-same : (a b : List ℕ) (m : Entries) → bytes_eq b a ≡ true → IsBelow b m → IsBelow a m
 IsBelow-same a b m h i = subst (λ x. IsBelow x m) ((bytes_eq-Decides b a).0 h) i
 
 pub Rises-put : (k v : List ℕ) (m : Entries) → Rises m → Rises (put m k v)
