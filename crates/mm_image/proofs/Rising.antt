@@ -1,33 +1,33 @@
 -- The keys of the entries of a well-formed forest rise.
-use Rattle.std.proofs.Common.{inl, inr, ◌≡◌, ◌⊎◌, ℕ, ℤ, zero, suc, ◌+◌, ◌<◌, ◌≤◌, Bool, true, false, cond, IsTrue, List, [], ◌∷◌, ◌++◌, refl, ap, sym, subst, ◌∙◌, Option, Some, None, Less, map, length, arith}
+use Rattle.std.proofs.Common.{inl, inr, ◌≡◌, ◌⊎◌, ℕ, ℤ, zero, suc, ◌+◌, ◌<◌, ◌≤◌, Bool, true, false, cond, IsTrue, List, [], ◌∷◌, ◌++◌, refl, ap, sym, subst, ◌∙◌, Option, Some, None, Less, map, arith}
 use Rattle.std.specs.Prelude.{bytes_eq, flat_map, filter}
 use Rattle.std.specs.Cmp.Lexicographic.{slice_cmp}
-use Rattle.std.specs.List.{AllByRecursion, list_any, range_with_len, starts_with}
+use Rattle.std.specs.List.{AllByRecursion, list_any, range_with_len}
 use Rattle.std.specs.List.Sorted.{IsStrictlySortedBy}
-use Rattle.std.specs.Ordering.{int_cmp, int_eq, is_lt, nat_cmp, ordering_then}
-use Rattle.std.proofs.lemmas.Bool.{and_parts, leb-true}
-use Rattle.std.proofs.lemmas.Bool.Decides.{Decides-int_eq, nat_tests}
+use Rattle.std.specs.Ordering.{int_cmp, is_lt, nat_cmp, ordering_then}
+use Rattle.std.proofs.lemmas.Bool.{and_parts}
+use Rattle.std.proofs.lemmas.Bool.Decides.{nat_tests}
 use Rattle.std.proofs.lemmas.Cmp.{int_cmp_total, lists_total, nat_list_cmp_total, tied_itself}
 use Rattle.std.proofs.lemmas.Grind.{flat_map-append}
-use Rattle.std.proofs.lemmas.Slice.Eq.{starts_is}
 use Rattle.mm_label.specs.Bytes.{bytes_of}
 use Rattle.mm_label.specs.Fronts.{Ascends, Lt, Ordered, Within}
 use Rattle.mm_label.specs.Facts.Lists.{ascends_own, within_own}
 use Rattle.mm_label.specs.Facts.Members.{within_in, within_joined}
 use Rattle.mm_label.specs.Facts.Order.{lt_before}
 use Rattle.mm_label.specs.Facts.Ordered.{ordered_joined, ordered_map}
-use Rattle.mm_label.specs.Label.{IsLabel, all_in_range, is_empty, is_odd, is_segment, last_odd}
+use Rattle.mm_label.specs.Label.{IsLabel}
 use Rattle.mm_words.specs.Words.{is_word, name_pieces, name_words, text_words}
 use Rattle.mm_keeper.specs.Entries.{Entries, Entry, IsBelow, Rises, below}
 use Rattle.mm_tree.specs.declared.plain.Kind.{Kind}
 use Rattle.mm_tree.specs.declared.plain.Kind.TheVariants.{Element, Words}
 use Rattle.mm_tree.specs.Facts.Formed.{formed}
+use Rattle.mm_tree.specs.Facts.Labels.{labels_are}
 use Rattle.mm_tree.specs.Facts.Places.{preorder_each, preorder_rises}
 use Rattle.mm_tree.specs.Formed.{node_label}
-use Rattle.mm_tree.specs.Forests.{are_labelled, has_valid_kind, is_child_label, is_well_formed, segment_below}
+use Rattle.mm_tree.specs.Forests.{are_labelled, has_valid_kind, is_well_formed}
 use Rattle.mm_tree.specs.Numbering.{Labelled, has_room}
 use Rattle.mm_tree.specs.Search.{Worded, attribute_words, has, list_of, own, worded, worded_as}
-use Rattle.mm_tree.specs.Trees.{Trees, none, node, every, has_some, preorder}
+use Rattle.mm_tree.specs.Trees.{Trees, none, node, every, preorder}
 use Rattle.mm_tree.specs.Validity.{is_valid_kind, piece_count}
 use Rattle.mm_image.specs.Content.{piece}
 use Rattle.mm_image.specs.Image.{chunks, chunks_of, count_of, counts, image, in_order, occurrences, occurrences_of, with_word, words}
@@ -89,43 +89,6 @@ is_below : (k l : List ℕ) → slice_cmp nat_cmp k l ≡ Less → below k l ≡
 is_below k l e = ap is_lt e
 
 -- ---- the nodes
-
-ends_odd : (b : Bool) (y s : List ℤ) → is_segment s ≡ true → last_odd b (y ++ s) ≡ true
-ends_odd b [] [] h = absurd cc
-ends_odd b [] (c ∷ s) h = by (is_odd c) refl h (ends_odd (is_odd c) [] s)
-  where
-    last : (s : List ℤ) → is_empty s ≡ true → is_odd c ≡ true → last_odd (is_odd c) s ≡ true
-    last [] g e = e
-    last (d ∷ s) g e = absurd cc
-
-    by : (o : Bool) → is_odd c ≡ o → cond o (is_empty s) (is_segment s) ≡ true → (is_segment s ≡ true → last_odd (is_odd c) s ≡ true) → last_odd (is_odd c) s ≡ true
-    by true e h f = last s h e
-    by false e h f = f h
-ends_odd b (c ∷ y) s h = ends_odd (is_odd c) y s h
-
-labels_are : (y : List ℤ) (left : Option (List ℤ)) (f : Trees Labelled) (d : Labelled) → are_labelled y left f ≡ true → every has_room f ≡ true → Within d (preorder f) → IsLabel d.label
-labels_are y left none d a r i = absurd i
-labels_are y left (node e inner rest) d a r i =
-    let p = and_parts (is_child_label y left e.label) _ a in
-    let q = and_parts (are_labelled e.label None inner) _ p.1 in
-    let c = and_parts (starts_with int_eq e.label y) _ p.0 in
-    let g = and_parts (is_segment (segment_below y e.label)) _ c.1 in
-    let k = and_parts (has_room e (has_some inner)) _ r in
-    let l = and_parts (every has_room inner) _ k.1 in
-    elim i [
-      | inl h ↦ subst (λ (z : Labelled). IsLabel z.label) (sym h) (
-          let t = and_parts (all_in_range e.label) _ k.0 in
-          let j = (starts_is Decides-int_eq e.label y (starts_with int_eq e.label y) refl).0 c.0 in
-          record {
-            in_range = t.0;
-            ends_odd = subst (λ (z : List ℤ). last_odd false z ≡ true) (sym j) (ends_odd false y (segment_below y e.label) g.0);
-            short = leb-true (length (bytes_of e.label)) 512 t.1;
-          })
-      | inr h ↦ elim (within_joined d (preorder inner) (preorder rest) h) [
-        | inl m ↦ labels_are e.label None inner d q.0 l.0 m
-        | inr m ↦ labels_are y (Some (segment_below y e.label)) rest d q.1 l.1 m
-      ]
-    ]
 
 kinds_are : (f : Trees Labelled) (d : Labelled) → every has_valid_kind f ≡ true → Within d (preorder f) → is_valid_kind d.kind ≡ true
 kinds_are none d v i = absurd i

@@ -6,3 +6,5 @@ pub mod Nodes
 pub mod Runs
 pub mod Rebuild
 pub mod Full
+pub mod Walks
+pub mod Labels
