@@ -1,10 +1,10 @@
 -- The nodes of trees, one tree after the other.
-use Rattle.std.proofs.Common.{◌≡◌, ℕ, ◌+◌, ◌<◌, ◌≤◌, min, List, ◌∷◌, length, get_or, drop, ap, sym, ◌∙◌, arith}
+use Rattle.std.proofs.Common.{◌≡◌, ℕ, ◌+◌, ◌<◌, ◌≤◌, min, List, length, get_or, drop, ap, arith}
 use Rattle.std.proofs.lemmas.List.{drop_all}
 use Rattle.mm_tree.specs.declared.node.Node.{Node}
 use Rattle.mm_tree.specs.declared.node.Node.TheViews.{out-Node}
-use Rattle.mm_tree.specs.Trees.{Tree, nodes}
-use Rattle.mm_tree.specs.Numbering.{Labelled, forest_of}
+use Rattle.mm_tree.specs.Trees.{nodes}
+use Rattle.mm_tree.specs.Numbering.{forest_of}
 use Rattle.mm_tree.specs.Facts.Walks.{forest_at}
 
 nodes_next : (xs : List Node) (i : ℕ) (x : Node) → i < length xs → x ≡ get_or xs i x

@@ -1,7 +1,5 @@
 -- The labels of a well-formed forest are labels.
 use Rattle.std.proofs.Common.{inl, inr, ◌≡◌, ℤ, Bool, true, false, cond, List, [], ◌∷◌, ◌++◌, refl, sym, subst, Option, Some, None, length}
-use Rattle.std.specs.List.{starts_with}
-use Rattle.std.specs.Ordering.{int_eq}
 use Rattle.std.proofs.lemmas.Bool.{and_parts, leb-true}
 use Rattle.mm_label.specs.Bytes.{bytes_of}
 use Rattle.mm_label.specs.Fronts.{Within}
