@@ -8,3 +8,4 @@ pub mod Rebuild
 pub mod Full
 pub mod Walks
 pub mod Labels
+pub mod Words

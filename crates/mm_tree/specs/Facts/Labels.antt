@@ -1,5 +1,5 @@
 -- The labels of a well-formed forest are labels.
-use Rattle.std.proofs.Common.{inl, inr, ◌≡◌, ℤ, Bool, true, false, cond, List, [], ◌∷◌, ◌++◌, refl, sym, subst, Option, Some, None, length}
+use Rattle.std.proofs.Common.{inl, inr, ◌≡◌, ℤ, Bool, true, false, cond, IsTrue, List, [], ◌∷◌, ◌++◌, refl, sym, subst, Option, Some, None, length}
 use Rattle.std.proofs.lemmas.Bool.{and_parts, leb-true}
 use Rattle.mm_label.specs.Bytes.{bytes_of}
 use Rattle.mm_label.specs.Fronts.{Within}
@@ -7,11 +7,11 @@ use Rattle.mm_label.specs.Facts.Members.{within_joined}
 use Rattle.mm_label.specs.Label.{IsLabel, all_in_range, is_empty, is_odd, is_segment, last_odd}
 use Rattle.mm_tree.specs.Trees.{Trees, none, node, every, has_some, preorder}
 use Rattle.mm_tree.specs.Numbering.{Labelled, has_room}
-use Rattle.mm_tree.specs.Forests.{are_labelled, segment_below}
+use Rattle.mm_tree.specs.Forests.{are_labelled, is_well_formed, segment_below}
 use Rattle.mm_tree.specs.Facts.Formed.{parts, front_splits}
 
 -- what ends in a segment ends in an odd component
-pub ends_odd : (b : Bool) (y s : List ℤ) → is_segment s ≡ true → last_odd b (y ++ s) ≡ true
+ends_odd : (b : Bool) (y s : List ℤ) → is_segment s ≡ true → last_odd b (y ++ s) ≡ true
 ends_odd b [] [] h = absurd cc
 ends_odd b [] (c ∷ s) h = by (is_odd c) refl h (ends_odd (is_odd c) [] s)
   where
@@ -43,3 +43,9 @@ labels_are y left (node e inner rest) d a r i =
         | inr m ↦ labels_are y (Some (segment_below y e.label)) rest d p.after l.1 m
       ]
     ]
+
+pub node_is_labelled : (f : Trees Labelled) → IsTrue (is_well_formed f) → (d : Labelled) → Within d (preorder f) → IsLabel d.label
+node_is_labelled f w d i =
+    let a = and_parts (are_labelled [] None f) _ w in
+    let r = and_parts (every has_room f) _ a.1 in
+    labels_are [] None f d a.0 r.0 i
