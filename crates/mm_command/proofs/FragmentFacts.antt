@@ -1,5 +1,5 @@
 -- The nodes of fragments, one fragment after the other.
-use Rattle.std.proofs.Common.{◌≡◌, ℕ, ◌+◌, ◌<◌, ◌≤◌, min, List, [], ◌∷◌, ◌++◌, length, get_or, drop, ap, ap₂, sym, ◌∙◌, arith, append-nil, append_assoc}
+use Rattle.std.proofs.Common.{◌≡◌, ℕ, ◌+◌, ◌<◌, ◌≤◌, min, List, ◌++◌, length, get_or, drop, ap, ap₂, sym, ◌∙◌, arith, append-nil, append_assoc}
 use Rattle.std.specs.List.{flat_map}
 use Rattle.std.proofs.lemmas.List.{drop_all}
 use Rattle.std.proofs.lemmas.Grind.{flat_map-append}
@@ -7,7 +7,7 @@ use Rattle.mm_list.specs.Facts.{drop_at}
 use Rattle.mm_tree.specs.declared.fragment.Fragment.{Fragment}
 use Rattle.mm_tree.specs.declared.fragment.Fragment.TheViews.{out-Fragment}
 use Rattle.mm_tree.specs.declared.fragment.Fragment.TheFolds.{fold_out-Fragment}
-use Rattle.mm_tree.specs.Trees.{Trees, Tree, nodes, preorder}
+use Rattle.mm_tree.specs.Trees.{Tree, nodes, preorder}
 use Rattle.mm_tree.specs.Fragments.{Named, fragment_step, fragment_tree, fragment_trees}
 use Rattle.mm_command.specs.Replies.{shown_count, shown_line, fragment_head, fragment_text}
 use Rattle.mm_command.specs.Inside.Showing.{shown_of}
