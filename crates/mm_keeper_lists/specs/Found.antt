@@ -1,5 +1,5 @@
 -- What look-ups answer of the entry that was found, over any map.
-use Rattle.std.specs.Prelude.{ℕ, ℤ, List, ◌≡◌, Option, Some, None}
+use Rattle.std.specs.Prelude.{ℕ, ℤ, List, ◌≡◌, Option, Some, None, Result, IfOk, IfErr}
 use Rattle.mm_host.specs.declared.damage.Damage.TheVariants.{Key}
 use Rattle.mm_host.specs.declared.damage.Fault.{Fault}
 use Rattle.mm_host.specs.declared.damage.Fault.TheVariants.{Damaged}
@@ -22,6 +22,11 @@ Blames w (Some e) (Damaged (Key k)) = (k ≡ e.0) × ((r : List ℕ) × (e.0 ≡
 Blames w (Some e) (Damaged d) = ⊥
 Blames w found fault = Unit {0}
 
+-- What a look-up answers of the entry that it found.
+pub record Reads (w : List ℕ) (found : Option Entry) (result : Result (Option (List ℤ)) Fault) : Type 0 where
+  pub told : IfOk result (Tells w found)
+  pub blame : IfErr result (Blames w found)
+
 -- the number in the count's entry, 0 without one
 abbrev pub TellsCount : Option Entry → ℕ → Type 0
 TellsCount None n = n ≡ 0
@@ -33,3 +38,7 @@ BlamesCount None (Damaged d) = ⊥
 BlamesCount (Some e) (Damaged (Key k)) = (k ≡ e.0) × (count_in e.1 ≡ None)
 BlamesCount (Some e) (Damaged d) = ⊥
 BlamesCount found fault = Unit {0}
+
+pub record ReadsCount (found : Option Entry) (result : Result ℕ Fault) : Type 0 where
+  pub told : IfOk result (TellsCount found)
+  pub blame : IfErr result (BlamesCount found)
