@@ -3,9 +3,9 @@ use Rattle.std.proofs.Common.{◌≡◌, ◌≤◌, ◌<◌, ◌+◌, ◌-◌, �
 use Rattle.std.specs.Prelude.{nat_lt, nat_le, IfOk}
 use Rattle.std.proofs.lemmas.Bool.Decides.{nat_tests}
 use Rattle.std.proofs.lemmas.List.{take_all, take-append-le, append-nil, append_assoc, length-replicate, take-append-drop, drop-drop, drop_all, drop_more, take_more, take-replicate}
-use Rattle.mm_host.specs.Disk.{Range, AreaState, DiskState, Image, IsImage, MayLeave, IsInside, IsOutside, area_of, fresh_area, fresh_disk, image_now, furthest, put_bytes, range_at}
+use Rattle.mm_host.specs.Disk.{Range, IsSynced, AreaState, DiskState, Image, IsImage, MayLeave, IsInside, IsOutside, area_of, fresh_area, fresh_disk, image_now, furthest, put_bytes, range_at}
 use Rattle.mm_host.specs.MemoryDisk.{Past, MemDiskState, IsDue, after_ok, Piece, put_of, after_put, after_call, after_calls, state_of, noted, bytes_in, same_area, syncs, is_synced, unsynced, with_front, IsFilled, IsLeft}
-use Rattle.mm_host.specs.Inside.Holding.{AreaBytes, FollowsFromCalls, past_of, put_in, bytes_after, bytes_after_all, ranges_after, ranges_after_all, IsLast, is_in, is_inside, is_behind, with_piece}
+use Rattle.mm_host.specs.Inside.Holding.{AreaBytes, FollowsFromCalls, past_of, put_in, bytes_after, bytes_after_all, ranges_after, ranges_after_all, IsLast, is_in, is_inside}
 use Rattle.mm_host.specs.Facts.Replay.{length-put, put-outside, length-put_of, furthest-least, furthest-grows, after-append, after-noted, now-left}
 use Rattle.mm_host.specs.declared.area.Area.{Area}
 use Rattle.mm_host.specs.declared.area.Area.TheVariants.{Pages, Journal}
@@ -18,13 +18,9 @@ fresh-area : (i : Image) (area : Area) → area_of (fresh_disk i) area ≡ fresh
 fresh-area i Pages = refl
 fresh-area i Journal = refl
 
--- an area that was just made, or synced
-record IsQuiet (a : AreaState) : Type 0 where
-  stable : a.stable ≡ a.now
-  loose : a.loose ≡ []
-
-fresh-quiet : (i : Image) (area : Area) → IsQuiet (area_of (fresh_disk i) area)
-fresh-quiet i area = record { stable = ap (λ (a : AreaState). a.stable) (fresh-area i area) ∙ sym (ap (λ (a : AreaState). a.now) (fresh-area i area)); loose = ap (λ (a : AreaState). a.loose) (fresh-area i area) }
+-- an area that was just made, or synced, is all stable
+fresh-synced : (i : Image) (area : Area) → IsSynced (area_of (fresh_disk i) area)
+fresh-synced i area = record { stable = ap (λ (a : AreaState). a.stable) (fresh-area i area) ∙ sym (ap (λ (a : AreaState). a.now) (fresh-area i area)); loose = ap (λ (a : AreaState). a.loose) (fresh-area i area) }
 
 call-now : (s : DiskState) (c : Call) (area : Area) → (area_of (after_call s c) area).now ≡ bytes_after area c (area_of s area).now
 call-now s Other area = refl
@@ -69,14 +65,14 @@ call-loose s (Sync Pages) Journal e = refl
 call-loose s (Sync Journal) Pages e = refl
 call-loose s (Sync Journal) Journal e = absurd cc
 
-call-quiet : (s : DiskState) (c : Call) (area : Area) → syncs area c ≡ true → IsQuiet (area_of (after_call s c) area)
-call-quiet s Other area e = absurd cc
-call-quiet s Read area e = absurd cc
-call-quiet s (Write written at bytes failed) area e = absurd cc
-call-quiet s (Sync Pages) Pages e = record { stable = refl; loose = refl }
-call-quiet s (Sync Pages) Journal e = absurd cc
-call-quiet s (Sync Journal) Pages e = absurd cc
-call-quiet s (Sync Journal) Journal e = record { stable = refl; loose = refl }
+call-synced : (s : DiskState) (c : Call) (area : Area) → syncs area c ≡ true → IsSynced (area_of (after_call s c) area)
+call-synced s Other area e = absurd cc
+call-synced s Read area e = absurd cc
+call-synced s (Write written at bytes failed) area e = absurd cc
+call-synced s (Sync Pages) Pages e = record { stable = refl; loose = refl }
+call-synced s (Sync Pages) Journal e = absurd cc
+call-synced s (Sync Journal) Pages e = absurd cc
+call-synced s (Sync Journal) Journal e = record { stable = refl; loose = refl }
 
 -- where no call made sure of the area, the first of them didn't, nor did those behind it
 neither : (area : Area) (c : Call) (cs : List Call) → is_synced area (c ∷ cs) ≡ false → (syncs area c ≡ false) × (is_synced area cs ≡ false)
@@ -94,9 +90,9 @@ calls-loose : (s : DiskState) (cs : List Call) (area : Area) → is_synced area 
 calls-loose s [] area e = refl
 calls-loose s (c ∷ cs) area e = let n = neither area c cs e in calls-loose (after_call s c) cs area n.1 ∙ ap (ranges_after_all area cs) (call-loose s c area n.0)
 
-last-quiet : (s : DiskState) (cs : List Call) (area : Area) (from : ℕ) → IsQuiet (area_of s area) → IsLast area cs from → IsQuiet (area_of (after_calls s (take from cs)) area)
-last-quiet s cs area zero quiet last = quiet
-last-quiet s cs area (suc k) quiet last =
+last-synced : (s : DiskState) (cs : List Call) (area : Area) (from : ℕ) → IsSynced (area_of s area) → IsLast area cs from → IsSynced (area_of (after_calls s (take from cs)) area)
+last-synced s cs area zero quiet last = quiet
+last-synced s cs area (suc k) quiet last =
     let within : k < length cs = omega (arith, last.within) in
     let c = get_or cs k Other in
     let split : drop k cs ≡ c ∷ drop (k + 1) cs = drop_more cs k Other within in
@@ -104,8 +100,8 @@ last-quiet s cs area (suc k) quiet last =
     let behind : is_synced area (drop (k + 1) cs) ≡ false = last.behind (k + 1) (omega arith) in
     let one_more : suc k ≡ k + 1 = omega arith in
     let front : take (suc k) cs ≡ take k cs ++ c ∷ [] = ap (λ (n : ℕ). take n cs) one_more ∙ take_more cs k Other within in
-    subst (λ (l : List Call). IsQuiet (area_of (after_calls s l) area)) (sym front)
-    (subst (λ (d : DiskState). IsQuiet (area_of d area)) (sym (after-append s (take k cs) (c ∷ []))) (call-quiet (after_calls s (take k cs)) c area (first area c (drop (k + 1) cs) here behind)))
+    subst (λ (l : List Call). IsSynced (area_of (after_calls s l) area)) (sym front)
+    (subst (λ (d : DiskState). IsSynced (area_of d area)) (sym (after-append s (take k cs) (c ∷ []))) (call-synced (after_calls s (take k cs)) c area (first area c (drop (k + 1) cs) here behind)))
   where
     first : (area : Area) (c : Call) (rest : List Call) → is_synced area (c ∷ rest) ≡ true → is_synced area rest ≡ false → syncs area c ≡ true
     first area c rest e behind = by (syncs area c) refl e
@@ -125,8 +121,8 @@ module _ (past : Past) (area : Area) (made : List ℕ) (cs : List Call) (is_made
       ∙ ap (λ (l : List Call). (area_of (after_calls (fresh_disk past.made) l) area).now) (sym are_calls)
 
   module _ (from : ℕ) (last : IsLast area cs from) where
-    mid-quiet : IsQuiet (area_of (after_calls (fresh_disk past.made) (take from cs)) area)
-    mid-quiet = last-quiet (fresh_disk past.made) cs area from (fresh-quiet past.made area) last
+    mid-synced : IsSynced (area_of (after_calls (fresh_disk past.made) (take from cs)) area)
+    mid-synced = last-synced (fresh_disk past.made) cs area from (fresh-synced past.made area) last
 
     whole : state_of past ≡ after_calls (after_calls (fresh_disk past.made) (take from cs)) (drop from cs)
     whole = ap (after_calls (fresh_disk past.made)) (are_calls ∙ sym (take-append-drop from cs)) ∙ after-append (fresh_disk past.made) (take from cs) (drop from cs)
@@ -136,14 +132,14 @@ module _ (past : Past) (area : Area) (made : List ℕ) (cs : List Call) (is_made
     stable-bytes bytes e =
         let mid = after_calls (fresh_disk past.made) (take from cs) in
         let is_stable : (area_of (state_of past) area).stable ≡ (area_of mid area).now =
-        ap (λ (d : DiskState). (area_of d area).stable) whole ∙ calls-stable mid (drop from cs) area (last.behind from (omega arith)) ∙ mid-quiet.stable in
+        ap (λ (d : DiskState). (area_of d area).stable) whole ∙ calls-stable mid (drop from cs) area (last.behind from (omega arith)) ∙ mid-synced.stable in
         e ∙ ap (bytes_after_all area (take from cs)) (sym made-now) ∙ sym (calls-now (fresh_disk past.made) (take from cs) area) ∙ sym is_stable
 
     -- what is loose is what was written since
     pub loose-ranges : (area_of (state_of past) area).loose ≡ ranges_after_all area (drop from cs) []
     loose-ranges =
         let mid = after_calls (fresh_disk past.made) (take from cs) in
-        ap (λ (d : DiskState). (area_of d area).loose) whole ∙ calls-loose mid (drop from cs) area (last.behind from (omega arith)) ∙ ap (ranges_after_all area (drop from cs)) mid-quiet.loose
+        ap (λ (d : DiskState). (area_of d area).loose) whole ∙ calls-loose mid (drop from cs) area (last.behind from (omega arith)) ∙ ap (ranges_after_all area (drop from cs)) mid-synced.loose
 
 -- a range has the places from its first up to its end
 in-true : (r : Range) (k : ℕ) → r.from ≤ k → k < r.end → is_in r k ≡ true
@@ -320,45 +316,10 @@ left-image (Front n) past area bytes e =
 pub left-both : (pick : Pick) (past : Past) (pages journal : List ℕ) → IsLeft pick past Pages pages → IsLeft pick past Journal journal → MayLeave (state_of past) (record { pages = pages; journal = journal })
 left-both pick past pages journal p j = record { pages = left-image pick past Pages pages p; journal = left-image pick past Journal journal j }
 
--- one call more of those that left bytes unsynced
-behind-is : (c : Call) (cs : List Call) (place pages journal : ℕ) → is_synced Pages (c ∷ cs) ≡ nat_lt place pages → is_synced Journal (c ∷ cs) ≡ nat_lt place journal
-    → unsynced (c ∷ cs) ≡ with_piece c (is_behind c place pages journal) (unsynced cs)
-behind-is Other cs place pages journal p j = refl
-behind-is Read cs place pages journal p j = refl
-behind-is (Sync area) cs place pages journal p j = refl
-behind-is (Write Pages at bytes failed) cs place pages journal p j = ap (λ (b : Bool). cond b (unsynced cs) (record { area = Pages; at = at; bytes = put_of failed bytes } ∷ unsynced cs)) p
-behind-is (Write Journal at bytes failed) cs place pages journal p j = ap (λ (b : Bool). cond b (unsynced cs) (record { area = Journal; at = at; bytes = put_of failed bytes } ∷ unsynced cs)) j
-
-last-test : (area : Area) (cs : List Call) (from k : ℕ) → IsLast area cs from → is_synced area (drop k cs) ≡ nat_lt k from
-last-test area cs from k last = by (nat_lt k from) refl
-  where
-    by : (b : Bool) → nat_lt k from ≡ b → is_synced area (drop k cs) ≡ b
-    by true e = last.before k (grind (arith, nat_tests))
-    by false e = last.behind k (grind (arith, nat_tests))
-
-pub unsynced-more : (cs : List Call) (place pages journal : ℕ) (c : Call) → IsLast Pages cs pages → IsLast Journal cs journal → drop place cs ≡ c ∷ drop (place + 1) cs
-    → unsynced (drop place cs) ≡ with_piece c (is_behind c place pages journal) (unsynced (drop (place + 1) cs))
-unsynced-more cs place pages journal c p j split =
-    ap unsynced split
-    ∙ behind-is c (drop (place + 1) cs) place pages journal (sym (ap (is_synced Pages) split) ∙ last-test Pages cs pages place p) (sym (ap (is_synced Journal) split) ∙ last-test Journal cs journal place j)
-
 -- nothing is left to put
 pub front-none : (area : Area) (ps : List Piece) (bytes : List ℕ) → with_front area 0 ps bytes ≡ bytes
 front-none area [] bytes = refl
 front-none area (p ∷ ps) bytes = refl
-
-pub front-more : (area : Area) (n : ℕ) (p : Piece) (ps : List Piece) (bytes : List ℕ) → 0 < n
-    → with_front area n (p ∷ ps) bytes ≡ with_front area (n - length p.bytes) ps (cond (same_area p.area area) (put_bytes bytes p.at (take n p.bytes)) bytes)
-front-more area n p ps bytes h =
-    ap (λ (b : Bool). cond b (with_front area (n - length p.bytes) ps (cond (same_area p.area area) (put_bytes bytes p.at (take n p.bytes)) bytes)) bytes) (test n h)
-  where
-    test : (n : ℕ) → 0 < n → nat_lt 0 n ≡ true
-    test n h = grind (arith, nat_tests)
-
--- a call that puts no bytes
-pub sync-puts_nothing : (s : DiskState) (area : Area) → image_now (after_call s (Sync area)) ≡ image_now s
-sync-puts_nothing s Pages = refl
-sync-puts_nothing s Journal = refl
 
 pub write-puts : (s : DiskState) (area : Area) (at : ℕ) (bytes : List ℕ) (failed : Bool) → image_now (after_call s (Write area at bytes failed)) ≡ put_in (image_now s) area at (put_of failed bytes)
 write-puts s Pages at bytes failed = refl
@@ -433,30 +394,6 @@ write-follows pages journal pages' journal' cs area at bytes failed f p j put =
           ∙ ap (λ (i : Image). put_in i area at (put_of failed bytes)) f.now ∙ sym put;
     }
 
--- no call made sure of the area past the end
-pub behind-end : (area : Area) (cs : List Call) (k : ℕ) → length cs ≤ k → is_synced area (drop k cs) ≡ false
-behind-end area cs k le = ap (is_synced area) (drop_all k cs le)
-
--- nor from a call on that didn't, where none behind it did
-pub behind-more : (area : Area) (cs : List Call) (from : ℕ) (c : Call) → 0 < from → from ≤ length cs → c ≡ get_or cs (from - 1) c → syncs area c ≡ false
-    → ((k : ℕ) → from ≤ k → is_synced area (drop k cs) ≡ false) → (k : ℕ) → from - 1 ≤ k → is_synced area (drop k cs) ≡ false
-behind-more area cs from c some within read not_here behind k le = by (nat_le from k) refl
-  where
-    split : drop (from - 1) cs ≡ c ∷ drop from cs
-    split =
-        let place : from - 1 + 1 ≡ from = omega (arith, some) in
-        drop_more cs (from - 1) c (omega (arith, some, within)) ∙ ap (λ (x : Call). x ∷ drop (from - 1 + 1) cs) (sym read) ∙ ap (λ (n : ℕ). c ∷ drop n cs) place
-
-    here : is_synced area (drop (from - 1) cs) ≡ false
-    here = ap (is_synced area) split ∙ ap (λ (b : Bool). cond b true (is_synced area (drop from cs))) not_here ∙ behind from (omega arith)
-
-    by : (b : Bool) → nat_le from k ≡ b → is_synced area (drop k cs) ≡ false
-    by true e = behind k (grind (arith, nat_tests))
-    by false e =
-        let lt : k < from = grind (arith, nat_tests) in
-        let same : k ≡ from - 1 = omega (arith, lt, le) in
-        ap (λ (n : ℕ). is_synced area (drop n cs)) same ∙ here
-
 synced-rest : (area : Area) (n : ℕ) (cs : List Call) → is_synced area (drop n cs) ≡ true → is_synced area cs ≡ true
 synced-rest area zero cs e = e
 synced-rest area (suc n) [] e = e
@@ -483,18 +420,6 @@ last-here area cs from c some within read is_here behind = record { within = wit
     before k lt =
         let place : k + (from - 1 - k) ≡ from - 1 = omega (arith, lt) in
         synced-rest area (from - 1 - k) (drop k cs) (ap (is_synced area) (drop-drop (from - 1 - k) k cs ∙ ap (λ (n : ℕ). drop n cs) place) ∙ here)
-
--- no call made sure of the area
-pub last-none : (area : Area) (cs : List Call) → ((k : ℕ) → 0 ≤ k → is_synced area (drop k cs) ≡ false) → IsLast area cs 0
-last-none area cs behind = record { within = omega arith; before = λ k lt. absurd (omega (arith, lt)); behind = behind }
-
-drop-at : (cs : List Call) (i : ℕ) (c : Call) → i < length cs → c ≡ get_or cs i c → drop i cs ≡ c ∷ drop (i + 1) cs
-drop-at cs i c within read = drop_more cs i c within ∙ ap (λ (x : Call). x ∷ drop (i + 1) cs) (sym read)
-
--- one call more is done again
-pub replay-step : (area : Area) (cs : List Call) (i : ℕ) (c : Call) (old new : List ℕ) → i < length cs → c ≡ get_or cs i c → new ≡ bytes_after area c old
-    → bytes_after_all area (drop (i + 1) cs) new ≡ bytes_after_all area (drop i cs) old
-replay-step area cs i c old new within read e = ap (bytes_after_all area (drop (i + 1) cs)) e ∙ sym (ap (λ (l : List Call). bytes_after_all area l old) (drop-at cs i c within read))
 
 ranges-append : (area : Area) (xs ys : List Call) (rs : List Range) → ranges_after_all area (xs ++ ys) rs ≡ ranges_after_all area ys (ranges_after_all area xs rs)
 ranges-append area [] ys rs = refl
@@ -528,15 +453,6 @@ fill-step area cs i c byte old mid new k within read before here =
     let more : ranges_after_all area (take (i + 1) cs) [] ≡ ranges_after area c rs = ap (λ (l : List Call). ranges_after_all area l []) front ∙ ranges-append area (take i cs) (c ∷ []) [] in
     here ∙ ap (λ (x : ℕ). cond (is_inside (ranges_after area c []) k) byte x) before ∙ twice (is_inside (ranges_after area c []) k) (is_inside rs k) byte old
     ∙ ap (λ (b : Bool). cond b byte old) (sym (inside-more area c rs k)) ∙ sym (ap (λ (l : List Range). cond (is_inside l k) byte old) more)
-
--- the front of what one call more put
-pub front-step : (area : Area) (cs : List Call) (place pages journal : ℕ) (c : Call) (flag : Bool) (left rest : ℕ) (old new : List ℕ) → place < length cs → c ≡ get_or cs place c
-    → IsLast Pages cs pages → IsLast Journal cs journal → flag ≡ is_behind c place pages journal
-    → ((ps : List Piece) → with_front area rest ps new ≡ with_front area left (with_piece c flag ps) old)
-    → with_front area rest (unsynced (drop (place + 1) cs)) new ≡ with_front area left (unsynced (drop place cs)) old
-front-step area cs place pages journal c flag left rest old new within read p j is_flag h =
-    h (unsynced (drop (place + 1) cs)) ∙ ap (λ (b : Bool). with_front area left (with_piece c b (unsynced (drop (place + 1) cs))) old) is_flag
-    ∙ ap (λ (ps : List Piece). with_front area left ps old) (sym (unsynced-more cs place pages journal c p j (drop-at cs place c within read)))
 
 -- what a read that answered Ok found
 pub read-bytes : (old new : MemDiskState) (area : Area) (bytes : List ℕ) → bytes ≡ (area_of (state_of new.past) area).now → (IsDue old → ⊥) × (new ≡ after_ok old Read) → bytes ≡ (area_of (state_of old.past) area).now

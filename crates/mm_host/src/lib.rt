@@ -16,6 +16,7 @@ mod mem_source;
 mod no_disk;
 mod pick;
 mod quiet;
+mod since;
 mod sink;
 mod source;
 
@@ -30,5 +31,6 @@ pub use mem_source::MemSource;
 pub use no_disk::NoDisk;
 pub use pick::Pick;
 pub use quiet::{QuietSink, QuietSource};
+pub use since::fault_since;
 pub use sink::{Sink, write_all};
 pub use source::Source;

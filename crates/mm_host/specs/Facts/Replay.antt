@@ -159,12 +159,6 @@ pub goes-ok : {T E : Type 0} (old new : MemDiskState) (whole cut : Call) (r : Re
 goes-ok old new whole cut (Ok x) g = ap (λ (d : MemDiskState). state_of d.past) g.1 ∙ after-noted old.past whole
 goes-ok old new whole cut (Err e) g = tt
 
-pub goes-err : {T E : Type 0} (old new : MemDiskState) (whole cut : Call) (r : Result T E) → Goes old new whole cut r
-    → OnErr r ((state_of new.past ≡ after_call (state_of old.past) cut) ⊎ ((state_of new.past ≡ state_of old.past) × Rose old.wants new.wants))
-goes-err old new whole cut (Ok x) g = tt
-goes-err old new whole cut (Err e) (inl g) = inl (ap (λ (d : MemDiskState). state_of d.past) g.1 ∙ after-noted old.past cut)
-goes-err old new whole cut (Err e) (inr g) = inr (ap (λ (d : MemDiskState). state_of d.past) g, omega (arith, ap (λ (d : MemDiskState). d.wants) g))
-
 -- a failed call that puts no bytes changes nothing
 pub goes-same : {T E : Type 0} (old new : MemDiskState) (whole : Call) (r : Result T E) → Goes old new whole Other r → OnErr r (state_of new.past ≡ state_of old.past)
 goes-same old new whole (Ok x) g = tt
