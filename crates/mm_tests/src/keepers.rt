@@ -1,8 +1,8 @@
-// A sorted map, a keeper in memory and a cursor, once through each call, and where a keeper fails.
+//! A sorted map, a keeper in memory and a cursor, once through each call, and where a keeper fails.
 ghost use Rattle.std.specs.Prelude.{◌≡◌, ◌<◌, ◌↔◌, IfSome, length};
 
-use crate::{Cursor, Item, Keeper, SortedMap, VecKeeper};
 use mm_host::Fault;
+use mm_keeper::{Cursor, Item, Keeper, SortedMap, VecKeeper};
 use mm_steps::Steps;
 use std::alloc::{AllocError, Global};
 use std::marker::Brand;
@@ -10,7 +10,7 @@ use std::sync::ledger::{Blank, Ledger};
 use std::test::Fail;
 
 // Puts an entry into a small map.
-#[tactic(auto, using(crate::specs::Facts::InRange::put_weighs))]
+#[tactic(auto, using(mm_keeper::specs::Facts::InRange::put_weighs))]
 fn set(map: &mut SortedMap, key: &[u8], value: &[u8]) -> Result<Option<Item>, AllocError> {
     if map.weight() > 1000 || key.len() > 100 || value.len() > 100 {
         return Ok(None);
@@ -19,7 +19,7 @@ fn set(map: &mut SortedMap, key: &[u8], value: &[u8]) -> Result<Option<Item>, Al
 }
 
 // Puts an entry into a small keeper.
-#[tactic(auto, using(crate::specs::Facts::InRange::put_weighs))]
+#[tactic(auto, using(mm_keeper::specs::Facts::InRange::put_weighs))]
 fn put<K: Keeper, L: Ledger>(keeper: &mut K, key: &[u8], value: &[u8], steps: &mut Steps<L>) -> bool
     requires { K.is_sound keeper.old }
     ensures sound { K.is_sound keeper.new }
@@ -54,7 +54,7 @@ fn show<K: Keeper>(keeper: &mut K, spot: Option<K::Spot>, text: &mut Vec<u8>) ->
 }
 
 // Writes the entry of a key, the first at or above it and the last at or below it.
-#[tactic(auto, using(crate::specs::Facts::InRange::index_in_range, crate::specs::Facts::InRange::first_in_range, crate::specs::Facts::InRange::last_in_range))]
+#[tactic(auto, using(mm_keeper::specs::Facts::InRange::index_in_range, mm_keeper::specs::Facts::InRange::first_in_range, mm_keeper::specs::Facts::InRange::last_in_range))]
 fn look<K: Keeper, L: Ledger>(
     keeper: &mut K,
     key: &[u8],
@@ -75,7 +75,7 @@ fn look<K: Keeper, L: Ledger>(
 }
 
 // Writes the entries after and before that of a key.
-#[tactic(auto, using(crate::specs::Facts::InRange::index_in_range, crate::specs::Facts::InRange::next_in_range, crate::specs::Facts::InRange::before_in_range))]
+#[tactic(auto, using(mm_keeper::specs::Facts::InRange::index_in_range, mm_keeper::specs::Facts::InRange::next_in_range, mm_keeper::specs::Facts::InRange::before_in_range))]
 fn look_beside<K: Keeper, L: Ledger>(
     keeper: &mut K,
     key: &[u8],
@@ -99,7 +99,7 @@ fn look_beside<K: Keeper, L: Ledger>(
 }
 
 // Writes the keys from the first on, and the value of the last.
-#[tactic(auto, using(crate::specs::Facts::InRange::first_in_range, crate::specs::Facts::InRange::last_in_range, crate::specs::Facts::InRange::next_in_range, crate::specs::Facts::InRange::before_in_range))]
+#[tactic(auto, using(mm_keeper::specs::Facts::InRange::first_in_range, mm_keeper::specs::Facts::InRange::last_in_range, mm_keeper::specs::Facts::InRange::next_in_range, mm_keeper::specs::Facts::InRange::before_in_range))]
 fn walk<K: Keeper, L: Ledger>(
     keeper: &mut K,
     steps: &mut Steps<L>,
