@@ -14,7 +14,7 @@ use Rattle.mm_image.specs.Laws.{CountsAreLengths}
 use Rattle.mm_image.specs.Image.{image}
 use Rattle.mm_image.specs.Facts.Finding.{entry_at, IsUp, IsDown, IsAt}
 use Rattle.mm_keeper_lists.specs.Found.{Tells, Blames, TellsCount, BlamesCount}
-use Rattle.mm_keeper_lists.specs.Ground.{SameGround, StandsFor}
+use Rattle.mm_keeper_lists.specs.Ground.{SameGround, HoldsImage}
 use Rattle.mm_keeper_lists.proofs.Searching.{unbroken_count}
 use Rattle.mm_keeper_lists.proofs.Lookups.{up_is, down_is, at_is, up_stands, down_stands, unbroken}
 
@@ -69,7 +69,7 @@ count_sound law w key f m e s q few r b =
 -- ---- the lists stand for the same forest as before
 
 module _ {K D S : Type 0} (over : K → D) (has_maps : K → Type 0) (tells : Type 0) (seen : K → Seen S) (written : K → Written) (changes : K → ℕ) (moment : K → ℕ) (left_since : K → ℕ → Option Entries → Type 0) where
-  pub kept : (old new : K) → SameGround over has_maps tells seen written changes moment left_since old new → (f : Trees Labelled) → StandsFor has_maps seen old f ↔ StandsFor has_maps seen new f
+  pub kept : (old new : K) → SameGround over has_maps tells seen written changes moment left_since old new → (f : Trees Labelled) → HoldsImage has_maps seen old f ↔ HoldsImage has_maps seen new f
   kept old new g f = (
     λ s. (g.maps.0 s.0, s.1, ap (λ (z : Seen S). z.now) (g.same s.0) ∙ s.2),
     λ s. let m = g.maps.1 s.0 in (m, s.1, sym (ap (λ (z : Seen S). z.now) (g.same m)) ∙ s.2),

@@ -23,7 +23,7 @@ Blames w (Some e) (Damaged d) = ⊥
 Blames w found fault = Unit {0}
 
 -- What a look-up answers of the entry that it found.
-pub record Reads (w : List ℕ) (found : Option Entry) (result : Result (Option (List ℤ)) Fault) : Type 0 where
+pub record ReadsLabel (w : List ℕ) (found : Option Entry) (result : Result (Option (List ℤ)) Fault) : Type 0 where
   pub told : IfOk result (Tells w found)
   pub blame : IfErr result (Blames w found)
 

@@ -17,5 +17,5 @@ pub record SameGround {K D S : Type 0} (over : K → D) (has_maps : K → Type 0
   pub any_moment : has_maps old → LeavesAsBefore moment left_since old new
 
 -- The keeper has its maps, and the one now is the image of this well-formed forest.
-abbrev pub StandsFor : {K S : Type 0} → (K → Type 0) → (K → Seen S) → K → Trees Labelled → Type 0
-StandsFor has_maps seen k f = has_maps k × IsTrue (is_well_formed f) × ((seen k).now ≡ image f)
+abbrev pub HoldsImage : {K S : Type 0} → (K → Type 0) → (K → Seen S) → K → Trees Labelled → Type 0
+HoldsImage has_maps seen k f = has_maps k × IsTrue (is_well_formed f) × ((seen k).now ≡ image f)

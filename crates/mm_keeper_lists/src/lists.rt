@@ -4,14 +4,14 @@ ghost use Rattle.std.specs.Prelude.{◌≡◌, ◌+◌, ◌∷◌, ◌++◌, [],
 ghost use Rattle.std.proofs.Common.{◌∙◌};
 ghost use Rattle.mm_image.specs.Facts.Finding.{entry_at};
 ghost use Rattle.mm_keeper.specs.Entries.{first_from, index_of, last_to};
-ghost use Rattle.mm_keeper_lists.specs.Found.{Reads, ReadsCount};
+ghost use Rattle.mm_keeper_lists.specs.Found.{ReadsLabel, ReadsCount};
 ghost use Rattle.mm_keeper_lists.specs.Ranges.{range_key};
 ghost use Rattle.mm_label.specs.Bytes.{bytes_of};
 ghost use Rattle.mm_image.specs.Keys.{count_key, occurrence_key};
 ghost use Rattle.mm_lists.specs.Leaves.{Leaves};
 ghost use Rattle.mm_lists.specs.Lists.{IsLeft, IsNext, IsRight, IsRightPast, head_of};
 ghost use Rattle.mm_tree.specs.Search.{list_of, worded};
-ghost use Rattle.mm_keeper_lists.specs.Ground.{SameGround, StandsFor};
+ghost use Rattle.mm_keeper_lists.specs.Ground.{SameGround, HoldsImage};
 ghost use Rattle.mm_lists.specs.Causes.{Caused};
 ghost use Rattle.mm_tree.specs.Numbering.{Labelled};
 ghost use Rattle.mm_tree.specs.Trees.{Trees};
@@ -66,7 +66,7 @@ impl<'a, K: Keeper> KeeperLists<'a, K> {
         key: &[u8],
         steps: &mut Steps<L>,
     ) -> Result<Option<Label>, Fault>
-        ensures reads { K.has_maps self.old.keeper.now → Reads word.now (entry_at (K.seen self.old.keeper.now).now (first_from (K.seen self.old.keeper.now).now key.now)) result }
+        ensures reads { K.has_maps self.old.keeper.now → ReadsLabel word.now (entry_at (K.seen self.old.keeper.now).now (first_from (K.seen self.old.keeper.now).now key.now)) result }
         ensures same_reference { self.new.keeper.ghost_name ≡ self.old.keeper.ghost_name }
         ensures ground { SameGround K.over K.has_maps K.tells K.seen K.written K.changes K.moment K.left_since self.old.keeper.now self.new.keeper.now }
         ensures cause { Caused (K.fault_count self.old.keeper.now) (K.fault_count self.new.keeper.now) (K.is_spent self.old.keeper.now) (K.is_spent self.new.keeper.now) result }
@@ -87,7 +87,7 @@ impl<'a, K: Keeper> KeeperLists<'a, K> {
         key: &[u8],
         steps: &mut Steps<L>,
     ) -> Result<Option<Label>, Fault>
-        ensures reads { K.has_maps self.old.keeper.now → Reads word.now (entry_at (K.seen self.old.keeper.now).now (last_to (K.seen self.old.keeper.now).now key.now)) result }
+        ensures reads { K.has_maps self.old.keeper.now → ReadsLabel word.now (entry_at (K.seen self.old.keeper.now).now (last_to (K.seen self.old.keeper.now).now key.now)) result }
         ensures same_reference { self.new.keeper.ghost_name ≡ self.old.keeper.ghost_name }
         ensures ground { SameGround K.over K.has_maps K.tells K.seen K.written K.changes K.moment K.left_since self.old.keeper.now self.new.keeper.now }
         ensures cause { Caused (K.fault_count self.old.keeper.now) (K.fault_count self.new.keeper.now) (K.is_spent self.old.keeper.now) (K.is_spent self.new.keeper.now) result }
@@ -120,7 +120,7 @@ impl<'a, K: Keeper> KeeperLists<'a, K> {
 impl<K: Keeper> Lists for KeeperLists<'_, K> {
     ghost use Rattle.mm_keeper_lists.specs.Inside.Grounds.{ground_itself, ground_along};
 
-    ghost stands = { λ k f. StandsFor K.has_maps K.seen k.keeper.now f };
+    ghost stands = { λ k f. HoldsImage K.has_maps K.seen k.keeper.now f };
 
     ghost same_ground = { λ k l. (l.keeper.ghost_name ≡ k.keeper.ghost_name) × SameGround K.over K.has_maps K.tells K.seen K.written K.changes K.moment K.left_since k.keeper.now l.keeper.now };
 
@@ -129,8 +129,8 @@ impl<K: Keeper> Lists for KeeperLists<'_, K> {
     ghost spent = { λ k. K.is_spent k.keeper.now };
 
     fn count<L: Ledger>(&mut self, word: &Word, steps: &mut Steps<L>) -> Result<u64, Fault>
-        ensures value { (f : Trees Labelled) → StandsFor K.has_maps K.seen self.old.keeper.now f → IfOk result (λ n. n ≡ length (list_of word.now (worded f))) }
-        ensures leaves { Leaves (λ k f. StandsFor K.has_maps K.seen k.keeper.now f) (λ k l. (l.keeper.ghost_name ≡ k.keeper.ghost_name) × SameGround K.over K.has_maps K.tells K.seen K.written K.changes K.moment K.left_since k.keeper.now l.keeper.now) (λ k. K.fault_count k.keeper.now) (λ k. K.is_spent k.keeper.now) self.old self.new result }
+        ensures value { (f : Trees Labelled) → HoldsImage K.has_maps K.seen self.old.keeper.now f → IfOk result (λ n. n ≡ length (list_of word.now (worded f))) }
+        ensures leaves { Leaves (λ k f. HoldsImage K.has_maps K.seen k.keeper.now f) (λ k l. (l.keeper.ghost_name ≡ k.keeper.ghost_name) × SameGround K.over K.has_maps K.tells K.seen K.written K.changes K.moment K.left_since k.keeper.now l.keeper.now) (λ k. K.fault_count k.keeper.now) (λ k. K.is_spent k.keeper.now) self.old self.new result }
         ensures ticks { steps.new ≡ steps.old + 1 }
         // Over any map: what the entry that was found tells.
         ensures reads { K.has_maps self.old.keeper.now → ReadsCount (entry_at (K.seen self.old.keeper.now).now (index_of (K.seen self.old.keeper.now).now (count_key word.now))) result }
@@ -152,11 +152,11 @@ impl<K: Keeper> Lists for KeeperLists<'_, K> {
         word: &Word,
         steps: &mut Steps<L>,
     ) -> Result<Option<Label>, Fault>
-        ensures value { (f : Trees Labelled) → StandsFor K.has_maps K.seen self.old.keeper.now f → IfOk result (λ o. o ≡ head_of (list_of word.now (worded f))) }
-        ensures leaves { Leaves (λ k f. StandsFor K.has_maps K.seen k.keeper.now f) (λ k l. (l.keeper.ghost_name ≡ k.keeper.ghost_name) × SameGround K.over K.has_maps K.tells K.seen K.written K.changes K.moment K.left_since k.keeper.now l.keeper.now) (λ k. K.fault_count k.keeper.now) (λ k. K.is_spent k.keeper.now) self.old self.new result }
+        ensures value { (f : Trees Labelled) → HoldsImage K.has_maps K.seen self.old.keeper.now f → IfOk result (λ o. o ≡ head_of (list_of word.now (worded f))) }
+        ensures leaves { Leaves (λ k f. HoldsImage K.has_maps K.seen k.keeper.now f) (λ k l. (l.keeper.ghost_name ≡ k.keeper.ghost_name) × SameGround K.over K.has_maps K.tells K.seen K.written K.changes K.moment K.left_since k.keeper.now l.keeper.now) (λ k. K.fault_count k.keeper.now) (λ k. K.is_spent k.keeper.now) self.old self.new result }
         ensures ticks { steps.new ≡ steps.old + 1 }
         // Over any map: what the entry that was found tells.
-        ensures reads { K.has_maps self.old.keeper.now → Reads word.now (entry_at (K.seen self.old.keeper.now).now (first_from (K.seen self.old.keeper.now).now (range_key word.now []))) result }
+        ensures reads { K.has_maps self.old.keeper.now → ReadsLabel word.now (entry_at (K.seen self.old.keeper.now).now (first_from (K.seen self.old.keeper.now).now (range_key word.now []))) result }
     {
         byte_order();
         match first_key(self.alloc, word) {
@@ -174,11 +174,11 @@ impl<K: Keeper> Lists for KeeperLists<'_, K> {
         at: &Label,
         steps: &mut Steps<L>,
     ) -> Result<Option<Label>, Fault>
-        ensures value { (f : Trees Labelled) → StandsFor K.has_maps K.seen self.old.keeper.now f → IfOk result (λ o. IsNext (list_of word.now (worded f)) at.now o) }
-        ensures leaves { Leaves (λ k f. StandsFor K.has_maps K.seen k.keeper.now f) (λ k l. (l.keeper.ghost_name ≡ k.keeper.ghost_name) × SameGround K.over K.has_maps K.tells K.seen K.written K.changes K.moment K.left_since k.keeper.now l.keeper.now) (λ k. K.fault_count k.keeper.now) (λ k. K.is_spent k.keeper.now) self.old self.new result }
+        ensures value { (f : Trees Labelled) → HoldsImage K.has_maps K.seen self.old.keeper.now f → IfOk result (λ o. IsNext (list_of word.now (worded f)) at.now o) }
+        ensures leaves { Leaves (λ k f. HoldsImage K.has_maps K.seen k.keeper.now f) (λ k l. (l.keeper.ghost_name ≡ k.keeper.ghost_name) × SameGround K.over K.has_maps K.tells K.seen K.written K.changes K.moment K.left_since k.keeper.now l.keeper.now) (λ k. K.fault_count k.keeper.now) (λ k. K.is_spent k.keeper.now) self.old self.new result }
         ensures ticks { steps.new ≡ steps.old + 1 }
         // Over any map: what the entry that was found tells.
-        ensures reads { K.has_maps self.old.keeper.now → Reads word.now (entry_at (K.seen self.old.keeper.now).now (first_from (K.seen self.old.keeper.now).now (range_key word.now (bytes_of at.now ++ 0 ∷ [])))) result }
+        ensures reads { K.has_maps self.old.keeper.now → ReadsLabel word.now (entry_at (K.seen self.old.keeper.now).now (first_from (K.seen self.old.keeper.now).now (range_key word.now (bytes_of at.now ++ 0 ∷ [])))) result }
     {
         byte_order();
         match key_behind(self.alloc, word, at, &[0]) {
@@ -196,11 +196,11 @@ impl<K: Keeper> Lists for KeeperLists<'_, K> {
         at: &Label,
         steps: &mut Steps<L>,
     ) -> Result<Option<Label>, Fault>
-        ensures value { (f : Trees Labelled) → StandsFor K.has_maps K.seen self.old.keeper.now f → IfOk result (λ o. IsLeft (list_of word.now (worded f)) at.now o) }
-        ensures leaves { Leaves (λ k f. StandsFor K.has_maps K.seen k.keeper.now f) (λ k l. (l.keeper.ghost_name ≡ k.keeper.ghost_name) × SameGround K.over K.has_maps K.tells K.seen K.written K.changes K.moment K.left_since k.keeper.now l.keeper.now) (λ k. K.fault_count k.keeper.now) (λ k. K.is_spent k.keeper.now) self.old self.new result }
+        ensures value { (f : Trees Labelled) → HoldsImage K.has_maps K.seen self.old.keeper.now f → IfOk result (λ o. IsLeft (list_of word.now (worded f)) at.now o) }
+        ensures leaves { Leaves (λ k f. HoldsImage K.has_maps K.seen k.keeper.now f) (λ k l. (l.keeper.ghost_name ≡ k.keeper.ghost_name) × SameGround K.over K.has_maps K.tells K.seen K.written K.changes K.moment K.left_since k.keeper.now l.keeper.now) (λ k. K.fault_count k.keeper.now) (λ k. K.is_spent k.keeper.now) self.old self.new result }
         ensures ticks { steps.new ≡ steps.old + 1 }
         // Over any map: what the entry that was found tells.
-        ensures reads { K.has_maps self.old.keeper.now → Reads word.now (entry_at (K.seen self.old.keeper.now).now (last_to (K.seen self.old.keeper.now).now (occurrence_key word.now at.now))) result }
+        ensures reads { K.has_maps self.old.keeper.now → ReadsLabel word.now (entry_at (K.seen self.old.keeper.now).now (last_to (K.seen self.old.keeper.now).now (occurrence_key word.now at.now))) result }
     {
         byte_order();
         match key_behind(self.alloc, word, at, &[]) {
@@ -218,11 +218,11 @@ impl<K: Keeper> Lists for KeeperLists<'_, K> {
         at: &Label,
         steps: &mut Steps<L>,
     ) -> Result<Option<Label>, Fault>
-        ensures value { (f : Trees Labelled) → StandsFor K.has_maps K.seen self.old.keeper.now f → IfOk result (λ o. IsRight (list_of word.now (worded f)) at.now o) }
-        ensures leaves { Leaves (λ k f. StandsFor K.has_maps K.seen k.keeper.now f) (λ k l. (l.keeper.ghost_name ≡ k.keeper.ghost_name) × SameGround K.over K.has_maps K.tells K.seen K.written K.changes K.moment K.left_since k.keeper.now l.keeper.now) (λ k. K.fault_count k.keeper.now) (λ k. K.is_spent k.keeper.now) self.old self.new result }
+        ensures value { (f : Trees Labelled) → HoldsImage K.has_maps K.seen self.old.keeper.now f → IfOk result (λ o. IsRight (list_of word.now (worded f)) at.now o) }
+        ensures leaves { Leaves (λ k f. HoldsImage K.has_maps K.seen k.keeper.now f) (λ k l. (l.keeper.ghost_name ≡ k.keeper.ghost_name) × SameGround K.over K.has_maps K.tells K.seen K.written K.changes K.moment K.left_since k.keeper.now l.keeper.now) (λ k. K.fault_count k.keeper.now) (λ k. K.is_spent k.keeper.now) self.old self.new result }
         ensures ticks { steps.new ≡ steps.old + 1 }
         // Over any map: what the entry that was found tells.
-        ensures reads { K.has_maps self.old.keeper.now → Reads word.now (entry_at (K.seen self.old.keeper.now).now (first_from (K.seen self.old.keeper.now).now (occurrence_key word.now at.now))) result }
+        ensures reads { K.has_maps self.old.keeper.now → ReadsLabel word.now (entry_at (K.seen self.old.keeper.now).now (first_from (K.seen self.old.keeper.now).now (occurrence_key word.now at.now))) result }
     {
         byte_order();
         match key_behind(self.alloc, word, at, &[]) {
@@ -240,11 +240,11 @@ impl<K: Keeper> Lists for KeeperLists<'_, K> {
         at: &Label,
         steps: &mut Steps<L>,
     ) -> Result<Option<Label>, Fault>
-        ensures value { (f : Trees Labelled) → StandsFor K.has_maps K.seen self.old.keeper.now f → IfOk result (λ o. IsRightPast (list_of word.now (worded f)) at.now o) }
-        ensures leaves { Leaves (λ k f. StandsFor K.has_maps K.seen k.keeper.now f) (λ k l. (l.keeper.ghost_name ≡ k.keeper.ghost_name) × SameGround K.over K.has_maps K.tells K.seen K.written K.changes K.moment K.left_since k.keeper.now l.keeper.now) (λ k. K.fault_count k.keeper.now) (λ k. K.is_spent k.keeper.now) self.old self.new result }
+        ensures value { (f : Trees Labelled) → HoldsImage K.has_maps K.seen self.old.keeper.now f → IfOk result (λ o. IsRightPast (list_of word.now (worded f)) at.now o) }
+        ensures leaves { Leaves (λ k f. HoldsImage K.has_maps K.seen k.keeper.now f) (λ k l. (l.keeper.ghost_name ≡ k.keeper.ghost_name) × SameGround K.over K.has_maps K.tells K.seen K.written K.changes K.moment K.left_since k.keeper.now l.keeper.now) (λ k. K.fault_count k.keeper.now) (λ k. K.is_spent k.keeper.now) self.old self.new result }
         ensures ticks { steps.new ≡ steps.old + 1 }
         // Over any map: what the entry that was found tells.
-        ensures reads { K.has_maps self.old.keeper.now → Reads word.now (entry_at (K.seen self.old.keeper.now).now (first_from (K.seen self.old.keeper.now).now (range_key word.now (bytes_of at.now ++ 255 ∷ [])))) result }
+        ensures reads { K.has_maps self.old.keeper.now → ReadsLabel word.now (entry_at (K.seen self.old.keeper.now).now (first_from (K.seen self.old.keeper.now).now (range_key word.now (bytes_of at.now ++ 255 ∷ [])))) result }
     {
         byte_order();
         ancestry();
