@@ -4,6 +4,7 @@ pub mod Answered
 pub mod Walks
 pub mod Piles
 pub mod Shows
+pub mod ShowAll
 pub mod LinkForest
 pub mod LinkPaths
 pub mod MarkedFacts
@@ -15,4 +16,5 @@ pub mod LinkMasks
 pub mod LinkFragment
 pub mod LinkTells
 pub mod Rounds
+pub mod Assembling
 pub mod Words

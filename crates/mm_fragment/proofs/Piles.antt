@@ -1,20 +1,17 @@
 -- A stack of fragments, and what is taken off it.
-use Rattle.std.proofs.Common.{inl, inr, ◌≡◌, ◌⊎◌, ℕ, Bool, true, false, List, [], ◌∷◌, ◌++◌, refl, sym, ap, ap₂, ◌∙◌, Some, None, append_assoc}
+use Rattle.std.proofs.Common.{inl, inr, ◌≡◌, ◌⊎◌, Bool, true, false, List, [], ◌∷◌, ◌++◌, refl, sym, subst, ap, ap₂, ◌∙◌, Some, None, append_assoc}
 use Rattle.std.specs.Prelude.{if◌then◌else◌}
 use Rattle.std.proofs.lemmas.List.{reverse-append}
 use Rattle.mm_label.specs.Fronts.{Label, is_front}
-use Rattle.mm_match.specs.declared.mark.Mark.{Mark}
 use Rattle.mm_tree.specs.declared.fragment.Fragment.{Fragment}
 use Rattle.mm_tree.specs.declared.fragment.Fragment.TheFolds.{fold_out-Fragment}
 use Rattle.mm_tree.specs.declared.fragment.Fragment.TheViews.{out-Fragment}
 use Rattle.mm_tree.specs.Trees.{Trees, none, node, Tree, one}
 use Rattle.mm_tree.specs.Forests.{and_then}
-use Rattle.mm_tree.specs.Numbering.{Labelled}
 use Rattle.mm_tree.specs.Fragments.{Named, fragment_step, fragment_tree, fragment_trees}
 use Rattle.mm_tree.specs.Formed.{name_label}
 use Rattle.mm_tree.specs.Rebuild.{below, behind, take_in, rebuild}
-use Rattle.mm_fragment.specs.Showing.{shown_at}
-use Rattle.mm_fragment.specs.Inside.Piling.{piled, label_of, TakesOff, TakesBelow, shown_all}
+use Rattle.mm_fragment.specs.Inside.Piling.{piled, label_of, TakesOff, TakesBelow, roots}
 
 -- a fragment's own label is that of its tree's root
 pub label_out : (f : Fragment) → label_of f ≡ (out-Fragment f).label
@@ -90,31 +87,33 @@ taking_ended x old now new taken g h = elim (last_cases now) [
 -- ---- from the last node to the first
 
 -- some of the nodes are left, and the stack has the trees of the others
-pub record Stacking (query : List (List ℕ)) (f : Trees Labelled) (nodes left : List Mark) (stack : List Fragment) : Type 0 where
-  pub done : List Mark
+pub record Stacking (nodes left stack : List Fragment) : Type 0 where
+  pub done : List Fragment
   pub all : nodes ≡ left ++ done
-  pub trees : piled stack ≡ rebuild name_label (shown_all query f done)
+  pub trees : piled stack ≡ rebuild name_label (roots done)
 
-joined_none : (ms : List Mark) → ms ≡ ms ++ []
+joined_none : (fs : List Fragment) → fs ≡ fs ++ []
 joined_none [] = refl
-joined_none (m ∷ ms) = ap (λ (r : List Mark). m ∷ r) (joined_none ms)
+joined_none (f ∷ fs) = ap (λ (r : List Fragment). f ∷ r) (joined_none fs)
 
-pub stacking_first : (query : List (List ℕ)) (f : Trees Labelled) (nodes : List Mark) (stack : List Fragment) → stack ≡ [] → Stacking query f nodes nodes stack
-stacking_first query f nodes stack e = record { done = []; all = joined_none nodes; trees = ap piled e }
+pub stacking_first : (nodes stack : List Fragment) → stack ≡ [] → Stacking nodes nodes stack
+stacking_first nodes stack e = record { done = []; all = joined_none nodes; trees = ap piled e }
 
-pub stacking_more : (query : List (List ℕ)) (f : Trees Labelled) (nodes left rest : List Mark) (m : Mark) (stack middle more off : List Fragment) (t : Fragment)
-    → Stacking query f nodes left stack → left ≡ rest ++ m ∷ [] → TakesBelow m.label stack middle off → fragment_tree t ≡ (shown_at query f m.label, fragment_trees off) → more ≡ middle ++ t ∷ []
-    → Stacking query f nodes rest more
-stacking_more query f nodes left rest m stack middle more off t g e h s k = record {
-  done = m ∷ g.done;
-  all = g.all ∙ ap (λ (r : List Mark). r ++ g.done) e ∙ append_assoc rest (m ∷ []) g.done;
-  trees = ap piled k ∙ piled_last middle t ∙ ap (λ (u : Tree Named). node u.0 u.1 (piled middle)) s
-      ∙ ap₂ (λ (b r : Trees Named). node (shown_at query f m.label) b r) h.taken h.left
-      ∙ ap (take_in name_label (shown_at query f m.label)) g.trees;
-}
+pub stacking_more : (nodes left rest stack middle more off : List Fragment) (n t : Fragment) (x : Label)
+    → Stacking nodes left stack → left ≡ rest ++ n ∷ [] → x ≡ label_of n → TakesBelow x stack middle off → fragment_tree t ≡ ((fragment_tree n).0, fragment_trees off) → more ≡ middle ++ t ∷ []
+    → Stacking nodes rest more
+stacking_more nodes left rest stack middle more off n t x g e l h s k =
+    let b = subst (λ (z : Label). TakesBelow z stack middle off) l h in
+    record {
+      done = n ∷ g.done;
+      all = g.all ∙ ap (λ (r : List Fragment). r ++ g.done) e ∙ append_assoc rest (n ∷ []) g.done;
+      trees = ap piled k ∙ piled_last middle t ∙ ap (λ (u : Tree Named). node u.0 u.1 (piled middle)) s
+          ∙ ap₂ (λ (c r : Trees Named). node (fragment_tree n).0 c r) b.taken b.left
+          ∙ ap (take_in name_label (fragment_tree n).0) g.trees;
+    }
 
-pub stacking_ended : (query : List (List ℕ)) (f : Trees Labelled) (nodes left : List Mark) (stack : List Fragment) → Stacking query f nodes left stack → left ≡ [] → piled stack ≡ rebuild name_label (shown_all query f nodes)
-stacking_ended query f nodes left stack g e = g.trees ∙ ap (λ (ms : List Mark). rebuild name_label (shown_all query f ms)) (sym (g.all ∙ ap (λ (r : List Mark). r ++ g.done) e))
+pub stacking_ended : (nodes left stack : List Fragment) → Stacking nodes left stack → left ≡ [] → piled stack ≡ rebuild name_label (roots nodes)
+stacking_ended nodes left stack g e = g.trees ∙ ap (λ (fs : List Fragment). rebuild name_label (roots fs)) (sym (g.all ∙ ap (λ (r : List Fragment). r ++ g.done) e))
 
 -- ---- the root
 

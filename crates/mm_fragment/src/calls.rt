@@ -14,6 +14,7 @@ ghost use Rattle.mm_fragment.specs.Showing.{named_in};
 use crate::children::Root;
 use crate::gathering::matches;
 use crate::rebuilding::rebuild;
+use crate::showing::{show, show_all};
 use mm_host::Fault;
 use mm_label::Label;
 use mm_lists::Lists;
@@ -37,7 +38,11 @@ fn assembled(
 {
     let marked = masks(alloc, root, matches)?;
     let kept = prune(alloc, marked.as_slice())?;
-    rebuild(alloc, forest, root, kept, words)
+    let shown = show_all(alloc, forest, kept, words)?;
+    match rebuild(alloc, shown)? {
+        Some(fragment) => Ok(fragment),
+        None => show(alloc, forest, root.copy(alloc)?, words),
+    }
 }
 
 /// The fragment of an answer: the root, and below it the contributors among the children, each with its

@@ -1,21 +1,16 @@
 //! A tree from its nodes in document order, gone over from the last to the first: each takes in the trees
 //! that were made last, as far as they lie below it.
 
-ghost use Rattle.std.specs.Prelude.{◌≡◌, [], IfOk};
-ghost use Rattle.mm_tree.specs.Trees.{Tree, none, one};
-ghost use Rattle.mm_tree.specs.Numbering.{forest_of};
-ghost use Rattle.mm_tree.specs.Fragments.{Named, fragment_tree};
-ghost use Rattle.mm_fragment.specs.Inside.Piling.{TakesBelow, TakesOff, piled, shown_all};
+ghost use Rattle.std.specs.Prelude.{◌≡◌, [], Option, IfOk, MatchOption};
+ghost use Rattle.mm_tree.specs.Trees.{Tree, one};
+ghost use Rattle.mm_tree.specs.Fragments.{Named, fragment_tree, fragment_trees};
+ghost use Rattle.mm_fragment.specs.Inside.Piling.{TakesBelow, TakesOff, piled, roots};
 ghost use Rattle.mm_tree.specs.Formed.{name_label};
 ghost use Rattle.mm_tree.specs.Rebuild.{rebuild};
-ghost use Rattle.mm_fragment.specs.Showing.{shown_at};
 
-use crate::showing::show;
 use mm_label::Label;
 use mm_list::Items;
-use mm_match::Mark;
-use mm_tree::{Forest, Fragment};
-use mm_words::Word;
+use mm_tree::Fragment;
 use std::alloc::{AllocError, Global};
 
 /// Takes the last of the stack off where it lies below x.
@@ -47,38 +42,42 @@ fn take_below(
     Ok(below)
 }
 
+/// The node with these fragments as its children.
+fn with_children(node: Fragment, children: Items<Fragment>) -> Fragment
+    ensures { fragment_tree result ≡ ((fragment_tree node).0, fragment_trees children) }
+{
+    let Fragment {
+        label,
+        name,
+        matches,
+        children: _none,
+    } = node;
+    Fragment {
+        label,
+        name,
+        matches,
+        children,
+    }
+}
+
 /// The trees of these nodes, the first of them last.
-fn stacked(
-    alloc: Global,
-    forest: &Forest,
-    nodes: Items<Mark>,
-    query: &[Word],
-) -> Result<Items<Fragment>, AllocError>
-    ensures { IfOk result (λ stack. piled stack ≡ rebuild name_label (shown_all query.now (forest_of forest.now) nodes)) }
+fn stacked(alloc: Global, nodes: Items<Fragment>) -> Result<Items<Fragment>, AllocError>
+    ensures { IfOk result (λ stack. piled stack ≡ rebuild name_label (roots nodes)) }
 {
     let mut stack = Items::new(alloc);
     let mut left = nodes;
-    while let Some(Mark { label, .. }) = left.pop() {
-        let children = take_below(alloc, &label, &mut stack)?;
-        stack.push(show(alloc, forest, label, children, query)?)?;
+    while let Some(node) = left.pop() {
+        let children = take_below(alloc, &node.label, &mut stack)?;
+        stack.push(with_children(node, children))?;
     }
     Ok(stack)
 }
 
-/// The tree of these nodes, of which the first is the root; the root alone where there are none.
-pub fn rebuild(
-    alloc: Global,
-    forest: &Forest,
-    root: &Label,
-    nodes: Items<Mark>,
-    query: &[Word],
-) -> Result<Fragment, AllocError>
-    ensures tree { (t : Tree Named) → rebuild name_label (shown_all query.now (forest_of forest.now) nodes) ≡ one t → IfOk result (λ r. fragment_tree r ≡ t) }
-    ensures alone { nodes ≡ [] → IfOk result (λ r. fragment_tree r ≡ (shown_at query.now (forest_of forest.now) root.now, none)) }
+/// The tree of these nodes, of which the first is the root; None where there is no node.
+pub fn rebuild(alloc: Global, nodes: Items<Fragment>) -> Result<Option<Fragment>, AllocError>
+    ensures tree { (t : Tree Named) → rebuild name_label (roots nodes) ≡ one t → IfOk result (λ r. MatchOption r ⊥ (λ f. fragment_tree f ≡ t)) }
+    ensures alone { nodes ≡ [] → IfOk result (λ r. r ≡ Option.None) }
 {
-    let mut stack = stacked(alloc, forest, nodes, query)?;
-    match stack.pop() {
-        Some(tree) => Ok(tree),
-        None => show(alloc, forest, root.copy(alloc)?, Items::new(alloc), query),
-    }
+    let mut stack = stacked(alloc, nodes)?;
+    Ok(stack.pop())
 }

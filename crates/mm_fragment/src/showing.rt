@@ -1,14 +1,17 @@
 //! What a fragment shows of a node.
 
 ghost use Rattle.std.specs.Prelude.{◌≡◌, IfOk};
-ghost use Rattle.mm_tree.specs.Fragments.{fragment_tree, fragment_trees};
+ghost use Rattle.mm_tree.specs.Fragments.{fragment_tree};
+ghost use Rattle.mm_tree.specs.Trees.{none};
 ghost use Rattle.mm_tree.specs.Numbering.{forest_of};
 ghost use Rattle.mm_tree.specs.Edits.{found};
 ghost use Rattle.mm_tree.specs.Hits.{name_at};
+ghost use Rattle.mm_fragment.specs.Inside.Piling.{roots, shown_all};
 ghost use Rattle.mm_fragment.specs.Showing.{own_in, shown_at};
 
 use mm_label::Label;
 use mm_list::Items;
+use mm_match::Mark;
 use mm_tree::calls::own_in;
 use mm_tree::{Forest, Fragment, Text};
 use mm_words::Word;
@@ -38,21 +41,38 @@ fn look(alloc: Global, forest: &Forest, label: &Label, query: &[Word]) -> Result
     }
 }
 
-/// What a fragment shows of the node that has the label, with the fragments of its children.
+/// What a fragment shows of the node that has the label, without its children.
 pub fn show(
     alloc: Global,
     forest: &Forest,
     label: Label,
-    children: Items<Fragment>,
     query: &[Word],
 ) -> Result<Fragment, AllocError>
-    ensures { IfOk result (λ f. fragment_tree f ≡ (shown_at query.now (forest_of forest.now) label, fragment_trees children)) }
+    ensures { IfOk result (λ f. fragment_tree f ≡ (shown_at query.now (forest_of forest.now) label, none)) }
 {
     let Shown { name, matches } = look(alloc, forest, &label, query)?;
     Ok(Fragment {
         label,
         name,
         matches,
-        children,
+        children: Items::new(alloc),
     })
+}
+
+/// What a fragment shows of each of these nodes, without their children.
+pub fn show_all(
+    alloc: Global,
+    forest: &Forest,
+    nodes: Items<Mark>,
+    query: &[Word],
+) -> Result<Items<Fragment>, AllocError>
+    ensures { IfOk result (λ shown. roots shown ≡ shown_all query.now (forest_of forest.now) nodes) }
+{
+    let mut shown = Items::new(alloc);
+    let mut left = nodes;
+    while let Some(Mark { label, .. }) = left.pop() {
+        shown.push(show(alloc, forest, label, query)?)?;
+    }
+    shown.reverse();
+    Ok(shown)
 }

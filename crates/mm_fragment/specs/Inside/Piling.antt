@@ -27,6 +27,10 @@ pub record TakesBelow (x : Label) (old new off : List Fragment) : Type 0 where
   pub taken : fragment_trees off ≡ below name_label x (piled old)
   pub left : piled new ≡ behind name_label x (piled old)
 
--- what the fragments show of these nodes, one by one
+-- what the fragments show of their own nodes, one by one
+abbrev pub roots : List Fragment → List Named
+roots fs = map (λ f. (fragment_tree f).0) fs
+
+-- what is to be shown of these nodes, one by one
 abbrev pub shown_all : List (List ℕ) → Trees Labelled → List Mark → List Named
 shown_all query forest marks = map (λ m. shown_at query forest m.label) marks

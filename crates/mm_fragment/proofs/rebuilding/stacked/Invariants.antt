@@ -1,10 +1,9 @@
 use Rattle.std.proofs.Common.{length}
-use Rattle.mm_tree.specs.Numbering.{forest_of}
 use Rattle.mm_fragment.proofs.Piles.{Stacking}
 use Rattle.mm_fragment.proofs.rebuilding.stacked.Given as goal
 
-abbrev pub invariant-loop-label : goal.invariant-loop-label
-invariant-loop-label l = Stacking l.query (forest_of l.forest) l.fn.nodes l.left l.stack
+abbrev pub invariant-loop-node : goal.invariant-loop-node
+invariant-loop-node l = Stacking l.fn.nodes l.left l.stack
 
-abbrev pub decreases-loop-label : goal.decreases-loop-label
-decreases-loop-label l = length l.left
+abbrev pub decreases-loop-node : goal.decreases-loop-node
+decreases-loop-node l = length l.left
