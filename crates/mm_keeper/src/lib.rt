@@ -21,6 +21,3 @@ pub use lend_error::LendError;
 pub use sorted_map::SortedMap;
 pub use spot::Spot;
 pub use vec_keeper::VecKeeper;
-
-#[cfg(test)]
-mod tests;

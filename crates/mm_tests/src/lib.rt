@@ -13,11 +13,15 @@ mod fragments;
 #[cfg(test)]
 mod items;
 #[cfg(test)]
+mod keepers;
+#[cfg(test)]
 mod labels;
 #[cfg(test)]
 mod lists;
 #[cfg(test)]
 mod matches;
+#[cfg(test)]
+mod pages;
 #[cfg(test)]
 mod trees;
 #[cfg(test)]
