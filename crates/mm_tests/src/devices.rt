@@ -1,9 +1,10 @@
 //! Each device once, by hand.
 
 use mm_host::{
-    Area, Bytes, Disk, Failed, MemSink, MemSource, NoDisk, QuietSink, QuietSource, Sink, Source,
-    write_all,
+    Area, Bytes, Disk, Failed, MemDisk, MemSink, MemSource, NoDisk, Pick, QuietSink, QuietSource,
+    Sink, Source, write_all,
 };
+use std::alloc::{AllocError, Global};
 use std::test::Fail;
 
 // What a source gives to one read into five bytes that held dots, and how many of them it says it gave.
@@ -74,6 +75,109 @@ fn a_disk_that_is_not_there_fails_at_each_call(rt: HostRuntime) {
     assert!(rt; disk.sync(Area::Journal).is_err());
     assert_eq!(rt; disk.faults(), 4);
     assert_eq!(rt; disk.wants(), 0);
+}
+
+// A disk with six bytes of pages and one of journal.
+fn small_disk(
+    alloc: Global,
+    failing: &[u64],
+    failing_from: Option<u64>,
+) -> Result<MemDisk, AllocError> {
+    let pages = Vec::from_slice(alloc, b"abcdef")?;
+    let journal = Vec::from_slice(alloc, b"j")?;
+    let failing = Vec::from_slice(alloc, failing)?;
+    Ok(MemDisk::new(pages, journal, failing, failing_from))
+}
+
+// All that a read of the area gives.
+fn all_of(alloc: Global, disk: &mut MemDisk, area: Area) -> Result<Vec<u8>, Fail> {
+    let size = disk.len(area)?;
+    let mut bytes = vec![in alloc; 0u8; size as usize]?;
+    disk.read(area, 0, &mut bytes)?;
+    Ok(bytes)
+}
+
+// What a crash after so many calls leaves of the area, and none where there were fewer calls.
+fn left(
+    alloc: Global,
+    disk: &MemDisk,
+    calls: u64,
+    pick: Pick,
+    area: Area,
+) -> Result<Vec<u8>, AllocError> {
+    if calls > disk.calls() {
+        return Ok(Vec::new(alloc));
+    }
+    let crashed = disk.crash(calls, pick)?;
+    Vec::from_slice(alloc, crashed.bytes(area))
+}
+
+// Four calls, the last of which fails: a write and a sync of pages, and two writes that no sync makes stable.
+fn write_to(disk: &mut MemDisk) -> [bool; 4] {
+    let first = disk.write_at(Area::Pages, 1, b"XY").is_ok();
+    let second = disk.sync(Area::Pages).is_ok();
+    let third = disk.write_at(Area::Journal, 3, b"kl").is_ok();
+    let fourth = disk.write_at(Area::Pages, 5, b"PQRS").is_ok();
+    [first, second, third, fourth]
+}
+
+#[test]
+fn a_disk_in_memory_reads_what_was_written(rt: HostRuntime) -> Result<(), Fail> {
+    let mut disk = small_disk(rt.alloc(), &[4], None)?;
+    assert_eq!(rt; write_to(&mut disk), [true, true, true, false]);
+    assert_eq!(rt; [disk.calls(), disk.faults(), disk.wants()], [4, 1, 0]);
+
+    let pages = all_of(rt.alloc(), &mut disk, Area::Pages)?;
+    assert_eq!(rt; pages.as_slice(), b"aXYdePQ".as_slice());
+    let journal = all_of(rt.alloc(), &mut disk, Area::Journal)?;
+    assert_eq!(rt; journal.as_slice(), b"j\0\0kl".as_slice());
+
+    assert!(rt; disk.write_at(Area::Pages, 1 << 62, b"x").is_err());
+    assert_eq!(rt; [disk.faults(), disk.wants()], [1, 1]);
+    Ok(())
+}
+
+#[test]
+fn a_crash_leaves_what_was_picked(rt: HostRuntime) -> Result<(), Fail> {
+    let mut disk = small_disk(rt.alloc(), &[4], None)?;
+    write_to(&mut disk);
+    let table = [
+        (4, Pick::Lost, b"aXYdef".as_slice(), b"j".as_slice()),
+        (3, Pick::Kept, b"aXYdef".as_slice(), b"j\0\0kl".as_slice()),
+        (
+            4,
+            Pick::Filled { byte: b'.' },
+            b"aXYde..".as_slice(),
+            b"j....".as_slice(),
+        ),
+        (
+            4,
+            Pick::Front { bytes: 3 },
+            b"aXYdeP".as_slice(),
+            b"j\0\0kl".as_slice(),
+        ),
+        (
+            4,
+            Pick::Front { bytes: 1 },
+            b"aXYdef".as_slice(),
+            b"j\0\0k".as_slice(),
+        ),
+    ];
+    for (calls, pick, pages, journal) in table {
+        let left_pages = left(rt.alloc(), &disk, calls, pick, Area::Pages)?;
+        assert_eq!(rt; left_pages.as_slice(), pages);
+        let left_journal = left(rt.alloc(), &disk, calls, pick, Area::Journal)?;
+        assert_eq!(rt; left_journal.as_slice(), journal);
+    }
+    Ok(())
+}
+
+#[test]
+fn a_disk_in_memory_fails_from_a_call_on(rt: HostRuntime) -> Result<(), Fail> {
+    let mut disk = small_disk(rt.alloc(), &[], Some(2))?;
+    assert_eq!(rt; write_to(&mut disk), [true, false, false, false]);
+    assert_eq!(rt; [disk.faults(), disk.wants()], [3, 0]);
+    Ok(())
 }
 
 #[test]
