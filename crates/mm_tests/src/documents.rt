@@ -39,6 +39,14 @@ pub fn copies(alloc: Global, document: &str, times: u8) -> Result<Forest, Fail> 
     Ok(forest)
 }
 
+/// Puts a piece behind a text, so many times.
+pub fn push_times(text: &mut String, piece: &str, times: usize) -> Result<(), AllocError> {
+    for _ in 0..times {
+        text.push_str(piece)?;
+    }
+    Ok(())
+}
+
 /// Whether the label has this text.
 pub fn has_text(alloc: Global, label: &Label, text: &str) -> Result<bool, AllocError> {
     let own = label.text(alloc)?;

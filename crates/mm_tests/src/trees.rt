@@ -2,6 +2,7 @@
 
 ghost use Rattle.std.specs.Prelude.{◌<◌, ◌^◌, length};
 
+use crate::documents::push_times;
 use mm_label::Label;
 use mm_tree::{Forest, Place, Refusal, TreeError, own_words};
 use mm_words::Word;
@@ -18,13 +19,6 @@ fn loaded(alloc: Global, forest: &mut Forest, bytes: &[u8]) -> Result<u64, Fail>
         Err(TreeError::Refused(Refusal::Room)) => Ok(0),
         Err(error) => Err(error)?,
     }
-}
-
-fn push_times(text: &mut String, piece: &str, times: usize) -> Result<(), AllocError> {
-    for _ in 0..times {
-        text.push_str(piece)?;
-    }
-    Ok(())
 }
 
 /// So many elements inside one another, each with so many empty ones before the next.
