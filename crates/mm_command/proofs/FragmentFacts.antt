@@ -1,12 +1,13 @@
 -- The nodes of fragments, one fragment after the other.
-use Rattle.std.proofs.Common.{◌≡◌, ℕ, ◌+◌, ◌<◌, ◌≤◌, min, List, [], ◌∷◌, ◌++◌, length, get_or, drop, ap, ap₂, sym, ◌∙◌, add-one, arith, drop-cons, append-nil, append_assoc}
+use Rattle.std.proofs.Common.{◌≡◌, ℕ, ◌+◌, ◌<◌, ◌≤◌, min, List, ◌++◌, length, get_or, drop, ap, ap₂, sym, ◌∙◌, arith, append-nil, append_assoc}
 use Rattle.std.specs.List.{flat_map}
 use Rattle.std.proofs.lemmas.List.{drop_all}
 use Rattle.std.proofs.lemmas.Grind.{flat_map-append}
+use Rattle.mm_list.specs.Facts.{drop_at}
 use Rattle.mm_tree.specs.declared.fragment.Fragment.{Fragment}
 use Rattle.mm_tree.specs.declared.fragment.Fragment.TheViews.{out-Fragment}
 use Rattle.mm_tree.specs.declared.fragment.Fragment.TheFolds.{fold_out-Fragment}
-use Rattle.mm_tree.specs.Trees.{Trees, Tree, nodes, preorder}
+use Rattle.mm_tree.specs.Trees.{Tree, nodes, preorder}
 use Rattle.mm_tree.specs.Fragments.{Named, fragment_step, fragment_tree, fragment_trees}
 use Rattle.mm_command.specs.Replies.{shown_count, shown_line, fragment_head, fragment_text}
 use Rattle.mm_command.specs.Inside.Showing.{shown_of}
@@ -14,13 +15,10 @@ use Rattle.mm_command.specs.Inside.Showing.{shown_of}
 pub tree_is : (f : Fragment) → fragment_tree f ≡ (shown_of f, fragment_trees (out-Fragment f).children)
 tree_is f = fold_out-Fragment (Tree Named) fragment_step f
 
-next_is : (xs : List Fragment) (i : ℕ) (x : Fragment) → i < length xs → x ≡ get_or xs i x → drop i xs ≡ x ∷ drop (i + 1) xs
-next_is xs i x h e = drop-cons xs i x h ∙ (λ j. sym e j ∷ drop (sym (add-one i) j) xs)
-
 nodes_next : (xs : List Fragment) (i : ℕ) (x : Fragment) → i < length xs → x ≡ get_or xs i x
     → nodes (fragment_trees (drop i xs)) ≡ 1 + nodes (fragment_trees (out-Fragment x).children) + nodes (fragment_trees (drop (i + 1) xs))
 nodes_next xs i x h e =
-    ap (λ (zs : List Fragment). nodes (fragment_trees zs)) (next_is xs i x h e) ∙ ap (λ (t : Tree Named). 1 + nodes t.1 + nodes (fragment_trees (drop (i + 1) xs))) (tree_is x)
+    ap (λ (zs : List Fragment). nodes (fragment_trees zs)) (drop_at xs i x h e) ∙ ap (λ (t : Tree Named). 1 + nodes t.1 + nodes (fragment_trees (drop (i + 1) xs))) (tree_is x)
 
 abbrev limit : ℕ
 limit = 18446744073709551615
@@ -47,7 +45,7 @@ lines xs = flat_map shown_line (preorder (fragment_trees xs))
 lines_next : (xs : List Fragment) (i : ℕ) (x : Fragment) → i < length xs → x ≡ get_or xs i x
     → lines (drop i xs) ≡ shown_line (shown_of x) ++ (lines (out-Fragment x).children ++ lines (drop (i + 1) xs))
 lines_next xs i x h e =
-    ap lines (next_is xs i x h e)
+    ap lines (drop_at xs i x h e)
     ∙ ap (λ (t : Tree Named). shown_line t.0 ++ flat_map shown_line (preorder t.1 ++ preorder (fragment_trees (drop (i + 1) xs)))) (tree_is x)
     ∙ ap (λ (l : List ℕ). shown_line (shown_of x) ++ l) (flat_map-append shown_line (preorder (fragment_trees (out-Fragment x).children)) (preorder (fragment_trees (drop (i + 1) xs))))
 

@@ -1,5 +1,5 @@
 -- How answers are written. Each line ends with a line feed (10), and its words are parted by spaces (32).
-use Rattle.std.specs.Prelude.{ℕ, ℤ, pos, ◌^◌, ◌-◌, min, List, [], ◌∷◌, ◌++◌, ◌≡◌, length, map, codes, refl}
+use Rattle.std.specs.Prelude.{ℕ, ℤ, ◌^◌, ◌-◌, min, List, [], ◌∷◌, ◌++◌, length, map, codes}
 use Rattle.std.specs.List.{flat_map}
 use Rattle.std.specs.Fmt.{decimal}
 use Rattle.mm_label.specs.Text.{text_of}

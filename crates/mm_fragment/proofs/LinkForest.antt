@@ -1,5 +1,5 @@
 -- The labels of a well-formed forest, and of the tree at a label.
-use Rattle.std.proofs.Common.{inl, inr, ◌≡◌, Bool, true, false, ◌||◌, cond, List, [], ◌∷◌, ◌++◌, refl, ap, sym, subst, ◌∙◌, Some, append-nil}
+use Rattle.std.proofs.Common.{inl, inr, ◌≡◌, Bool, true, false, ◌||◌, cond, List, ◌∷◌, ◌++◌, refl, ap, sym, subst, ◌∙◌, Some, append-nil}
 use Rattle.std.proofs.lemmas.Bool.{or_right}
 use Rattle.mm_label.specs.Label.{whole}
 use Rattle.mm_label.specs.Fronts.{Label, Front, Apart, Within}

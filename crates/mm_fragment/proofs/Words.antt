@@ -1,18 +1,16 @@
 -- The matches of the first words of a query, and what they cost.
-use Rattle.std.proofs.Common.{◌≡◌, ℕ, ◌+◌, ◌*◌, ◌^◌, ◌<◌, ◌≤◌, List, [], ◌∷◌, ◌++◌, sym, subst, ap, ap₂, ◌∙◌, arith, length, get_or, take, drop, drop-cons, add-one, append_assoc, append-nil}
+use Rattle.std.proofs.Common.{◌≡◌, ℕ, ◌+◌, ◌*◌, ◌^◌, ◌<◌, ◌≤◌, List, [], ◌∷◌, ◌++◌, sym, subst, ap, ◌∙◌, arith, length, get_or, take, drop, add-one, append_assoc, append-nil}
 use Rattle.std.specs.Prelude.{filter}
 use Rattle.std.proofs.Math.Nat.{two-pow-succ, mul-le-mul_right}
 use Rattle.std.proofs.Math.Pow.{pow-lt}
 use Rattle.std.proofs.lemmas.List.{take_more, drop_all, take-append-drop}
+use Rattle.mm_list.specs.Facts.{drop_at}
 use Rattle.mm_lists.specs.Full.{Word}
 use Rattle.mm_match.specs.declared.mark.Mark.{Mark}
 use Rattle.mm_tree.specs.Search.{has}
 use Rattle.mm_tree.specs.Fragments.{Named, bare}
 use Rattle.mm_fragment.specs.Bound.{holders, pairs}
 use Rattle.mm_fragment.specs.Matching.{marks_of, matches_of}
-
-here : (ws : List Word) (i : ℕ) (w : Word) → i < length ws → w ≡ get_or ws i w → drop i ws ≡ w ∷ drop (i + 1) ws
-here ws i w h e = drop-cons ws i w h ∙ ap₂ (λ (v : Word) (k : ℕ). v ∷ drop k ws) (sym e) (sym (add-one i))
 
 pub twice : (i : ℕ) → 2 ^ i + 2 ^ i ≡ 2 ^ (i + 1)
 twice i = sym (ap (λ (n : ℕ). 2 ^ n) (add-one i) ∙ two-pow-succ i)
@@ -24,7 +22,7 @@ matches_more ws i bit w es old new all h e b g n =
     ap (λ (ms : List Mark). ms ++ matches_of (2 ^ (i + 1)) (drop (i + 1) ws) es) (n ∙ ap (λ (k : ℕ). old ++ marks_of k (filter (λ d. has (bare d) w) es)) b)
     ∙ append_assoc old (marks_of (2 ^ i) (filter (λ d. has (bare d) w) es)) (matches_of (2 ^ (i + 1)) (drop (i + 1) ws) es)
     ∙ ap (λ (k : ℕ). old ++ (marks_of (2 ^ i) (filter (λ d. has (bare d) w) es) ++ matches_of k (drop (i + 1) ws) es)) (sym (twice i))
-    ∙ ap (λ (vs : List Word). old ++ matches_of (2 ^ i) vs es) (sym (here ws i w h e))
+    ∙ ap (λ (vs : List Word). old ++ matches_of (2 ^ i) vs es) (sym (drop_at ws i w h e))
     ∙ g
 
 pub matches_ended : (ws : List Word) (i : ℕ) (es : List Named) (old all : List Mark) → length ws ≤ i → old ++ matches_of (2 ^ i) (drop i ws) es ≡ all → old ≡ all

@@ -1,5 +1,7 @@
 -- When a device may answer that it failed.
-use Rattle.std.specs.Prelude.{ℕ, ◌+◌, ◌-◌, ◌^◌, ◌≤◌, ◌≡◌, min, ◌⊎◌, Result, OnOk, OnErr}
+use Rattle.std.specs.Prelude.{ℕ, ◌+◌, ◌-◌, ◌^◌, ◌≤◌, ◌≡◌, min, ◌⊎◌, Result, OnOk, OnErr, IfErr}
+use Rattle.mm_host.specs.declared.damage.Fault.{Fault}
+use Rattle.mm_host.specs.declared.damage.Fault.TheVariants.{DiskFault, Damaged, Spent, Memory}
 
 -- a count that rises by one, and stands still at its type's end
 abbrev pub next_count : ℕ → ℕ
@@ -21,3 +23,16 @@ pub record HasDiskCause {T E : Type 0} (faults faults' wants wants' : ℕ) (resu
   pub wants_later : wants ≤ wants'
   pub answered : OnOk result ((faults' ≡ faults) × (wants' ≡ wants))
   pub failed : OnErr result (Rose faults faults' ⊎ Rose wants wants')
+
+-- The count that rose where a call over a disk answers this fault. It answers no other.
+abbrev pub RoseFor : ℕ → ℕ → ℕ → ℕ → Fault → Type 0
+RoseFor faults faults' wants wants' DiskFault = Rose faults faults'
+RoseFor faults faults' wants wants' Memory = Rose wants wants'
+RoseFor faults faults' wants wants' (Damaged damage) = ⊥
+RoseFor faults faults' wants wants' Spent = ⊥
+
+-- In a call over a disk neither count falls, and the count of its fault rose.
+pub record HasFaultCause {T : Type 0} (faults faults' wants wants' : ℕ) (result : Result T Fault) : Type 0 where
+  pub faults_later : faults ≤ faults'
+  pub wants_later : wants ≤ wants'
+  pub failed : IfErr result (RoseFor faults faults' wants wants')

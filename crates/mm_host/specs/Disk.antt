@@ -109,3 +109,16 @@ IsCutShort area at n old new = (a : AreaState) × (new ≡ with_area old area a)
 -- after a good sync: a crash leaves what a read gives
 abbrev pub after_sync : AreaState → AreaState
 after_sync a = record a { stable = a.now; loose = [] }
+
+-- All of an area is stable.
+pub record IsSynced (a : AreaState) : Type 0 where
+  pub stable : a.stable ≡ a.now
+  pub loose : a.loose ≡ []
+
+-- the area while n bytes at this place are being written: their range is loose
+abbrev pub torn : AreaState → ℕ → ℕ → AreaState
+torn a at n = record a { loose = range_at at n ∷ a.loose }
+
+-- what a crash may leave in a write of n bytes to this area, or in the sync behind it
+abbrev pub TornLeaves : DiskState → Area → ℕ → ℕ → Image → Type 0
+TornLeaves s area at n = MayLeave (with_area s area (torn (area_of s area) at n))

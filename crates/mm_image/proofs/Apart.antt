@@ -5,7 +5,8 @@ use Rattle.mm_label.specs.Bytes.{bytes_of}
 use Rattle.mm_label.specs.Label.{IsLabel}
 use Rattle.mm_image.specs.declared.parsed.Parsed.TheVariants.{Chunk, Occurrence, Count}
 use Rattle.mm_image.specs.Laws.{KeysAreApart}
-use Rattle.mm_image.proofs.KeyFacts.{no_zero, same_front, same_word}
+use Rattle.mm_image.specs.Facts.Keys.{no_zero, same_word}
+use Rattle.mm_image.proofs.KeyFacts.{same_front}
 
 same_number : (m n : ℕ) → m < 4294967296 → n < 4294967296 → big_bytes 4 m ≡ big_bytes 4 n → m ≡ n
 same_number m n h k e =

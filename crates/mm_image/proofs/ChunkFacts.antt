@@ -1,5 +1,5 @@
 -- The chunks of a node are its content cut into pieces and numbered.
-use Rattle.std.proofs.Common.{◌≡◌, ℕ, ℤ, zero, suc, ◌+◌, ◌/◌, ◌<◌, ◌≤◌, Bool, true, false, ◌&&◌, List, [], ◌∷◌, ◌++◌, refl, ap, sym, subst, ◌∙◌, length, get_or, drop, map, arith, append_assoc, add-one, drop-cons}
+use Rattle.std.proofs.Common.{◌≡◌, ℕ, ℤ, zero, suc, ◌+◌, ◌/◌, ◌<◌, ◌≤◌, Bool, true, false, ◌&&◌, List, [], ◌∷◌, ◌++◌, refl, ap, sym, subst, ◌∙◌, length, get_or, map, arith, append_assoc}
 use Rattle.std.specs.Prelude.{flat_map, sum_by, nat_le}
 use Rattle.std.specs.List.{list_all, range_with_len}
 use Rattle.std.specs.Str.{chars, encode_utf8_all, is_utf8}
@@ -16,10 +16,10 @@ use Rattle.mm_tree.specs.declared.plain.Kind.{Kind}
 use Rattle.mm_tree.specs.declared.plain.Kind.TheVariants.{Element, Words}
 use Rattle.mm_tree.specs.declared.node.Node.{Node}
 use Rattle.mm_tree.specs.declared.node.Node.TheViews.{out-Node}
-use Rattle.mm_tree.specs.declared.node.Node.TheFolds.{fold_out-Node}
+use Rattle.mm_tree.specs.Facts.Walks.{labelled, node_of_out}
 use Rattle.mm_tree.specs.Characters.{is_name}
 use Rattle.mm_tree.specs.Forests.{has_valid_kind}
-use Rattle.mm_tree.specs.Numbering.{Labelled, forest_of, node_of, node_step}
+use Rattle.mm_tree.specs.Numbering.{Labelled, forest_of, node_of}
 use Rattle.mm_tree.specs.Trees.{Trees, Tree, none, node, one, every, has_some, preorder}
 use Rattle.mm_tree.specs.Validity.{attribute_size, content_size, has_valid_parts, is_node_name, is_valid_attribute, is_valid_kind, piece_count}
 use Rattle.mm_image.specs.Content.{attribute_bytes, content, piece, sized}
@@ -105,21 +105,6 @@ chunks_are label kind =
     ∙ ap (λ (n : ℕ). map (λ i. (chunk_key label i, piece kind i)) (range_with_len 0 n)) (count_is kind)
 
 -- ---- one node of a list after the other
-
-abbrev pub labelled : Node → Labelled
-labelled n = record { label = (out-Node n).label; kind = (out-Node n).kind }
-
-node_of_out : (n : Node) → node_of n ≡ (labelled n, forest_of (out-Node n).children)
-node_of_out n = fold_out-Node (Tree Labelled) node_step n
-
-first_is : (n : Node) (ns : List Node) → forest_of (n ∷ ns) ≡ node (labelled n) (forest_of (out-Node n).children) (forest_of ns)
-first_is n ns = ap (λ (t : Tree Labelled). node t.0 t.1 (forest_of ns)) (node_of_out n)
-
-pub next_is : (ns : List Node) (i : ℕ) (n : Node) → i < length ns → n ≡ get_or ns i n → forest_of (drop i ns) ≡ node (labelled n) (forest_of (out-Node n).children) (forest_of (drop (i + 1) ns))
-next_is ns i n h e =
-    let d : drop i ns ≡ get_or ns i n ∷ drop (suc i) ns = drop-cons ns i n h in
-    let a : suc i ≡ i + 1 = sym (add-one i) in
-    ap forest_of (d ∙ (ap (λ (m : Node). m ∷ drop (suc i) ns) (sym e) ∙ ap (λ (k : ℕ). n ∷ drop k ns) a)) ∙ first_is n (drop (i + 1) ns)
 
 pub chunks_node : (e : Labelled) (inner rest : Trees Labelled) → chunks (node e inner rest) ≡ chunks_of e ++ (chunks inner ++ chunks rest)
 chunks_node e inner rest = ap (λ (z : Entries). chunks_of e ++ z) (flat_map-append chunks_of (preorder inner) (preorder rest))

@@ -9,7 +9,7 @@ use Rattle.byteorder.specs.Numbers.{big_number-reads_back}
 use Rattle.mm_label.specs.Bytes.{bytes_of}
 use Rattle.mm_label.specs.Fronts.{Front, Lt, Ordered, Within}
 use Rattle.mm_label.specs.Label.{IsLabel}
-use Rattle.mm_label.specs.Facts.Members.{within_first, within_joined}
+use Rattle.mm_label.specs.Facts.Members.{within_first, within_flat, within_joined}
 use Rattle.mm_keeper.specs.Entries.{Entries, Entry}
 use Rattle.mm_tree.specs.declared.plain.Attribute.{Attribute}
 use Rattle.mm_tree.specs.declared.plain.Kind.{Kind}
@@ -30,7 +30,7 @@ use Rattle.mm_image.specs.Laws.{ImagesTellForests}
 use Rattle.mm_image.proofs.ChunkFacts.{count_is, name_fits, valid_attributes, valid_name, valid_parts, value_fits}
 use Rattle.mm_image.proofs.KeyFacts.{same_front}
 use Rattle.mm_image.proofs.PieceFacts.{take_all}
-use Rattle.mm_image.proofs.Rising.{chunks_headed, counts_headed, Headed, nodes_of, occurrences_headed, within_flat, within_range}
+use Rattle.mm_image.proofs.Rising.{chunks_headed, counts_headed, Headed, nodes_of, occurrences_headed, within_range}
 
 -- two lists that are split by what their first parts have and their ends haven't
 same_runs : {X : Type 0} (P : X → Type 0) (m n k l : List X) → ((x : X) → Within x m → P x) → ((x : X) → Within x n → P x) → ((x : X) → Within x k → P x → ⊥) → ((x : X) → Within x l → P x → ⊥)

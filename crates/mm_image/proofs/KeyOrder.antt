@@ -1,7 +1,6 @@
 -- The order of keys is the order of what they stand for.
-use Rattle.std.proofs.Common.{inl, inr, ◌≡◌, ◌⊎◌, ℕ, ℤ, zero, suc, ◌+◌, ◌-◌, ◌<◌, ◌≤◌, ◌/◌, ◌%◌, Bool, true, false, cond, nat_lt, not, List, [], ◌∷◌, ◌++◌, refl, ap, sym, subst, ◌∙◌, Ordering, Less, Equal, Greater, arith, append-nil}
+use Rattle.std.proofs.Common.{inl, inr, ◌≡◌, ◌⊎◌, ℕ, ℤ, zero, suc, ◌<◌, ◌≤◌, ◌/◌, ◌%◌, Bool, true, false, nat_lt, not, List, [], ◌∷◌, ◌++◌, refl, ap, sym, subst, ◌∙◌, Ordering, Less, Equal, Greater, arith, append-nil}
 use Rattle.std.specs.Prelude.{◌==◌}
-use Rattle.std.specs.Int.{to_be_bytes, w32}
 use Rattle.std.specs.Cmp.Lexicographic.{slice_cmp}
 use Rattle.std.specs.Ordering.{int_cmp, nat_cmp, ordering_reverse, ordering_then}
 use Rattle.std.proofs.lemmas.Bool.{and_parts, ltb-true}
@@ -9,19 +8,14 @@ use Rattle.std.proofs.lemmas.Cmp.{nat_list_cmp_total, int_cmp_total, lists_total
 use Rattle.std.proofs.lemmas.Grind.{flat_map-append}
 use Rattle.std.proofs.lemmas.Map.Lookups.{exact_bytes}
 use Rattle.byteorder.specs.Endian.{big_bytes}
-use Rattle.mm_label.specs.Bytes.{bytes_of, spell, spelling, rank, one, two, five, split}
-use Rattle.mm_label.specs.Label.{IsLabel, IsPrefix, IsAncestorOrSelf}
-use Rattle.mm_label.specs.Facts.Order.{exact}
+use Rattle.mm_label.specs.Bytes.{bytes_of, spell, rank}
+use Rattle.mm_label.specs.Label.{IsLabel}
+use Rattle.mm_label.specs.Facts.Order.{exact, splits}
 use Rattle.mm_words.specs.Words.{has_no_zero}
+use Rattle.mm_image.specs.Facts.LabelOrder.{Ancestry, ByteOrder, begins}
 use Rattle.mm_image.specs.Keys.{chunk_key}
 use Rattle.mm_image.specs.Laws.{ChunkOrder, OccurrenceOrder}
-use Rattle.mm_image.proofs.KeyFacts.{no_zero}
-
-abbrev pub ByteOrder : Type 0
-ByteOrder = (a b : List ℤ) → IsLabel a → IsLabel b → slice_cmp nat_cmp (bytes_of a) (bytes_of b) ≡ slice_cmp int_cmp a b
-
-abbrev pub Ancestry : Type 0
-Ancestry = (a b : List ℤ) → IsLabel a → IsLabel b → (IsPrefix (bytes_of a) (bytes_of b) → IsAncestorOrSelf a b) × (IsAncestorOrSelf a b → IsPrefix (bytes_of a) (bytes_of b))
+use Rattle.mm_image.specs.Facts.Keys.{no_zero}
 
 -- ---- lists with ends
 
@@ -97,33 +91,6 @@ number_order m n p q = by (nat_cmp m n) refl
     by Equal e = ap (λ (z : ℕ). slice_cmp nat_cmp (big_bytes 4 m) (big_bytes 4 z)) (sym (equal_is m n e)) ∙ tied_itself nat_list_cmp_total (big_bytes 4 m)
     by Greater e = reversed (big_bytes 4 m) (big_bytes 4 n) (digits_less n m (grind arith) q p)
 
--- ---- a spelling begins with a byte above 00
-
-record Begins (bytes : List ℕ) : Type 0 where
-  head : ℕ
-  tail : List ℕ
-  is : bytes ≡ head ∷ tail
-  above : 0 < head
-
-by_split : (k : ℕ) (f g : ℕ → List ℕ) (n : ℕ) → ((m : ℕ) → Begins (f m)) → ((m : ℕ) → Begins (g m)) → Begins (split k f g n)
-by_split k f g n u v = by (nat_lt n k)
-  where
-    by : (b : Bool) → Begins (cond b (f n) (g (n - k)))
-    by true = u n
-    by false = v (n - k)
-
-begins : (n : ℕ) → Begins (spelling n)
-begins n =
-    by_split 4294967296 (five 31) (split 8192 (two 32) (split 128 (one 64) (split 8192 (two 192) (five 224)))) n
-    (λ m. record { head = 31; tail = to_be_bytes w32 m; is = refl; above = omega arith })
-    (λ m. by_split 8192 (two 32) (split 128 (one 64) (split 8192 (two 192) (five 224))) m
-    (λ i. record { head = 32 + i / 256; tail = i % 256 ∷ []; is = refl; above = omega arith })
-    (λ i. by_split 128 (one 64) (split 8192 (two 192) (five 224)) i
-    (λ j. record { head = 64 + j; tail = []; is = refl; above = omega arith })
-    (λ j. by_split 8192 (two 192) (five 224) j
-    (λ l. record { head = 192 + l / 256; tail = l % 256 ∷ []; is = refl; above = omega arith })
-    (λ l. record { head = 224; tail = to_be_bytes w32 l; is = refl; above = omega arith }))))
-
 spelled_above : (c : ℤ) (rest : List ℤ) (s t : List ℕ) → slice_cmp nat_cmp (0 ∷ s) (bytes_of (c ∷ rest) ++ t) ≡ Less
 spelled_above c rest s t =
     let b = begins (rank c) in
@@ -134,16 +101,11 @@ cancel : (x r s : List ℕ) → x ++ r ≡ x ++ s → r ≡ s
 cancel [] r s e = e
 cancel (a ∷ x) r s e = cancel x r s cc
 
-fronts : (a b : List ℤ) → IsAncestorOrSelf a b → (rest : List ℤ) × (b ≡ a ++ rest)
-fronts [] b i = (b, refl)
-fronts (x ∷ a) [] i = absurd i
-fronts (x ∷ a) (y ∷ b) i = let t = fronts a b i.1 in let u = t.1 in let q = i.0 in (t.0, cc)
-
 -- ---- chunks
 
 pub chunk_less : ByteOrder → Ancestry → (a b : List ℤ) (s t : List ℕ) → IsLabel a → IsLabel b → slice_cmp int_cmp a b ≡ Less → slice_cmp nat_cmp (bytes_of a ++ (0 ∷ s)) (bytes_of b ++ (0 ∷ t)) ≡ Less
 chunk_less order ancestry a b s t g h l = less_on (bytes_of a) (bytes_of b) (0 ∷ s) (0 ∷ t) (order a b g h ∙ l) (λ r e.
-    let i = (fronts a b ((ancestry a b g h).0 (r, e))) in
+    let i = (splits a b).0 ((ancestry a b g h).0 (r, e)) in
     let q : bytes_of a ++ r ≡ bytes_of a ++ bytes_of i.0 = sym e ∙ (ap bytes_of i.1 ∙ flat_map-append spell a i.0) in
     goes_on i.0 i.1 r (cancel (bytes_of a) r (bytes_of i.0) q))
   where

@@ -1,5 +1,5 @@
 -- The keyword lists of some nodes in a map are, as entries, each of their words with its list.
-use Rattle.std.proofs.Common.{◌≡◌, ℕ, ℤ, Bool, true, false, ◌||◌, cond, List, [], ◌∷◌, ◌++◌, refl, ap, sym, subst, ◌∙◌, Option, Some, None, Ordering, Less, Equal, Greater, map}
+use Rattle.std.proofs.Common.{◌≡◌, ℕ, ℤ, Bool, true, false, ◌||◌, cond, List, [], ◌∷◌, refl, ap, sym, subst, ◌∙◌, Option, Some, None, Ordering, Less, Equal, Greater, map}
 use Rattle.std.specs.Prelude.{bytes_eq, flat_map, unwrap_or}
 use Rattle.std.specs.BTreeMap.{BTreeMap, get, IsOrdered}
 use Rattle.std.specs.Map.{keys_of, lookup}
@@ -12,6 +12,7 @@ use Rattle.std.proofs.lemmas.Map.Lookups.{exact_bytes}
 use Rattle.std.proofs.lemmas.Map.Keys.{sorted_head, sorted_tail}
 use Rattle.std.proofs.lemmas.Map.Text.{is_eq-slice_cmp}
 use Rattle.std.proofs.lemmas.Slice.Eq.{bytes_eq-Decides}
+use Rattle.mm_list.specs.Facts.{flat_map_mapped, map_mapped}
 use Rattle.mm_tree.specs.KeywordLists.{AreFilled, list_in}
 use Rattle.mm_tree.specs.Search.{Worded, list_of}
 use Rattle.mm_tree.specs.Trees.{Trees, preorder}
@@ -112,14 +113,6 @@ lists_are nodes lists s e f = same_entries (λ w. list_of w nodes) lists.entries
     (λ w. looked_up lists w (list_of w nodes) (e w) f ∙ ap (λ (b : Bool). cond b (Some (list_of w nodes)) None) (sym (word_is_held w nodes)))
 
 -- ---- what is made of the entries
-
-pub flat_map_mapped : {X Y Z : Type 0} (f : Y → List Z) (g : X → Y) (xs : List X) → flat_map f (map g xs) ≡ flat_map (λ x. f (g x)) xs
-flat_map_mapped f g [] = refl
-flat_map_mapped f g (x ∷ xs) = ap (λ z. f (g x) ++ z) (flat_map_mapped f g xs)
-
-map_mapped : {X Y Z : Type 0} (f : Y → Z) (g : X → Y) (xs : List X) → map f (map g xs) ≡ map (λ x. f (g x)) xs
-map_mapped f g [] = refl
-map_mapped f g (x ∷ xs) = ap (λ z. f (g x) ∷ z) (map_mapped f g xs)
 
 pub all_listed : (nodes : Trees Worded) (lists : Map) → IsOrdered (slice_cmp nat_cmp) lists → ((w : List ℕ) → list_in lists w ≡ list_of w nodes) → AreFilled lists → flat_map listed lists.entries ≡ occurrences nodes
 all_listed nodes lists s e f = ap (flat_map listed) (lists_are nodes lists s e f) ∙ flat_map_mapped listed (entry_of nodes) (words nodes)

@@ -1,52 +1,43 @@
 -- The keys of the entries of a well-formed forest rise.
-use Rattle.std.proofs.Common.{inl, inr, ◌≡◌, ◌⊎◌, ℕ, ℤ, zero, suc, ◌+◌, ◌<◌, ◌≤◌, Bool, true, false, cond, IsTrue, List, [], ◌∷◌, ◌++◌, refl, ap, sym, subst, ◌∙◌, Option, Some, None, Less, map, length, arith}
-use Rattle.std.specs.Prelude.{bytes_eq, flat_map, filter}
+use Rattle.std.proofs.Common.{inl, inr, ◌≡◌, ℕ, ℤ, zero, suc, ◌+◌, ◌<◌, ◌≤◌, true, IsTrue, List, [], ◌∷◌, ◌++◌, refl, ap, sym, subst, ◌∙◌, None, Less, map, arith}
+use Rattle.std.specs.Prelude.{bytes_eq, flat_map}
 use Rattle.std.specs.Cmp.Lexicographic.{slice_cmp}
-use Rattle.std.specs.List.{AllByRecursion, list_any, range_with_len, starts_with}
+use Rattle.std.specs.List.{AllByRecursion, list_any, range_with_len}
 use Rattle.std.specs.List.Sorted.{IsStrictlySortedBy}
-use Rattle.std.specs.Ordering.{int_cmp, int_eq, is_lt, nat_cmp, ordering_then}
-use Rattle.std.proofs.lemmas.Bool.{and_parts, leb-true}
-use Rattle.std.proofs.lemmas.Bool.Decides.{Decides-int_eq, nat_tests}
+use Rattle.std.specs.Ordering.{int_cmp, is_lt, nat_cmp, ordering_then}
+use Rattle.std.proofs.lemmas.Bool.{and_parts}
+use Rattle.std.proofs.lemmas.Bool.Decides.{nat_tests}
 use Rattle.std.proofs.lemmas.Cmp.{int_cmp_total, lists_total, nat_list_cmp_total, tied_itself}
-use Rattle.std.proofs.lemmas.Grind.{flat_map-append}
-use Rattle.std.proofs.lemmas.Slice.Eq.{starts_is}
 use Rattle.mm_label.specs.Bytes.{bytes_of}
 use Rattle.mm_label.specs.Fronts.{Ascends, Lt, Ordered, Within}
-use Rattle.mm_label.specs.Facts.Lists.{ascends_own, within_own}
-use Rattle.mm_label.specs.Facts.Members.{within_in, within_joined}
+use Rattle.mm_label.specs.Facts.Lists.{ascends_own}
+use Rattle.mm_label.specs.Facts.Members.{within_flat, within_in, within_joined}
 use Rattle.mm_label.specs.Facts.Order.{lt_before}
 use Rattle.mm_label.specs.Facts.Ordered.{ordered_joined, ordered_map}
-use Rattle.mm_label.specs.Label.{IsLabel, all_in_range, is_empty, is_odd, is_segment, last_odd}
-use Rattle.mm_words.specs.Words.{is_word, name_pieces, name_words, text_words}
+use Rattle.mm_label.specs.Label.{IsLabel}
+use Rattle.mm_words.specs.Words.{is_word}
 use Rattle.mm_keeper.specs.Entries.{Entries, Entry, IsBelow, Rises, below}
-use Rattle.mm_tree.specs.declared.plain.Kind.{Kind}
-use Rattle.mm_tree.specs.declared.plain.Kind.TheVariants.{Element, Words}
 use Rattle.mm_tree.specs.Facts.Formed.{formed}
-use Rattle.mm_tree.specs.Facts.Places.{preorder_each, preorder_rises}
+use Rattle.mm_tree.specs.Facts.Labels.{node_is_labelled}
+use Rattle.mm_tree.specs.Facts.Places.{preorder_rises}
 use Rattle.mm_tree.specs.Formed.{node_label}
-use Rattle.mm_tree.specs.Forests.{are_labelled, has_valid_kind, is_child_label, is_well_formed, segment_below}
+use Rattle.mm_tree.specs.Forests.{are_labelled, has_valid_kind, is_well_formed}
 use Rattle.mm_tree.specs.Numbering.{Labelled, has_room}
-use Rattle.mm_tree.specs.Search.{Worded, attribute_words, has, list_of, own, worded, worded_as}
-use Rattle.mm_tree.specs.Trees.{Trees, none, node, every, has_some, preorder}
+use Rattle.mm_tree.specs.Search.{Worded, list_of, own, worded}
+use Rattle.mm_tree.specs.Trees.{Trees, none, node, every, preorder}
 use Rattle.mm_tree.specs.Validity.{is_valid_kind, piece_count}
 use Rattle.mm_image.specs.Content.{piece}
-use Rattle.mm_image.specs.Image.{chunks, chunks_of, count_of, counts, image, in_order, occurrences, occurrences_of, with_word, words}
+use Rattle.mm_image.specs.Facts.Members.{listed_is, listed_label, own_label, own_within, words_are}
+use Rattle.mm_image.specs.Image.{chunks, chunks_of, count_of, counts, image, occurrences, occurrences_of, words}
 use Rattle.mm_image.specs.Keys.{chunk_key, occurrence_key}
 use Rattle.mm_image.specs.Laws.{ImagesRise}
 use Rattle.mm_image.proofs.ChunkFacts.{few_pieces, first_valid, inner_valid, rest_valid}
-use Rattle.mm_image.proofs.KeyFacts.{no_zero}
-use Rattle.mm_image.proofs.KeyOrder.{Ancestry, ByteOrder, chunk_less, chunk_order, less_is, occurrence_order, word_less}
-use Rattle.mm_image.proofs.Listing.{flat_map_mapped}
+use Rattle.mm_image.specs.Facts.Keys.{no_zero}
+use Rattle.mm_image.specs.Facts.LabelOrder.{Ancestry, ByteOrder}
+use Rattle.mm_image.proofs.KeyOrder.{chunk_less, chunk_order, less_is, occurrence_order, word_less}
 use Rattle.mm_image.proofs.WordFacts.{Above, in_order_rises}
 
 -- ---- lists in order
-
-pub within_flat : {X Y : Type 0} (f : X → List Y) (y : Y) (xs : List X) → Within y (flat_map f xs) → (x : X) × Within x xs × Within y (f x)
-within_flat f y [] w = absurd w
-within_flat f y (x ∷ xs) w = elim (within_joined y (f x) (flat_map f xs) w) [
-  | inl k ↦ (x, inl refl, k)
-  | inr k ↦ let t = within_flat f y xs k in (t.0, inr t.1, t.2)
-]
 
 ordered_flat : {X Y : Type 0} (S : X → X → Type 0) (R : Y → Y → Type 0) (f : X → List Y) (xs : List X) → Ordered S xs → ((x : X) → Within x xs → Ordered R (f x))
     → ((x z : X) → Within x xs → Within z xs → S x z → (u v : Y) → Within u (f x) → Within v (f z) → R u v) → Ordered R (flat_map f xs)
@@ -90,43 +81,6 @@ is_below k l e = ap is_lt e
 
 -- ---- the nodes
 
-ends_odd : (b : Bool) (y s : List ℤ) → is_segment s ≡ true → last_odd b (y ++ s) ≡ true
-ends_odd b [] [] h = absurd cc
-ends_odd b [] (c ∷ s) h = by (is_odd c) refl h (ends_odd (is_odd c) [] s)
-  where
-    last : (s : List ℤ) → is_empty s ≡ true → is_odd c ≡ true → last_odd (is_odd c) s ≡ true
-    last [] g e = e
-    last (d ∷ s) g e = absurd cc
-
-    by : (o : Bool) → is_odd c ≡ o → cond o (is_empty s) (is_segment s) ≡ true → (is_segment s ≡ true → last_odd (is_odd c) s ≡ true) → last_odd (is_odd c) s ≡ true
-    by true e h f = last s h e
-    by false e h f = f h
-ends_odd b (c ∷ y) s h = ends_odd (is_odd c) y s h
-
-labels_are : (y : List ℤ) (left : Option (List ℤ)) (f : Trees Labelled) (d : Labelled) → are_labelled y left f ≡ true → every has_room f ≡ true → Within d (preorder f) → IsLabel d.label
-labels_are y left none d a r i = absurd i
-labels_are y left (node e inner rest) d a r i =
-    let p = and_parts (is_child_label y left e.label) _ a in
-    let q = and_parts (are_labelled e.label None inner) _ p.1 in
-    let c = and_parts (starts_with int_eq e.label y) _ p.0 in
-    let g = and_parts (is_segment (segment_below y e.label)) _ c.1 in
-    let k = and_parts (has_room e (has_some inner)) _ r in
-    let l = and_parts (every has_room inner) _ k.1 in
-    elim i [
-      | inl h ↦ subst (λ (z : Labelled). IsLabel z.label) (sym h) (
-          let t = and_parts (all_in_range e.label) _ k.0 in
-          let j = (starts_is Decides-int_eq e.label y (starts_with int_eq e.label y) refl).0 c.0 in
-          record {
-            in_range = t.0;
-            ends_odd = subst (λ (z : List ℤ). last_odd false z ≡ true) (sym j) (ends_odd false y (segment_below y e.label) g.0);
-            short = leb-true (length (bytes_of e.label)) 512 t.1;
-          })
-      | inr h ↦ elim (within_joined d (preorder inner) (preorder rest) h) [
-        | inl m ↦ labels_are e.label None inner d q.0 l.0 m
-        | inr m ↦ labels_are y (Some (segment_below y e.label)) rest d q.1 l.1 m
-      ]
-    ]
-
 kinds_are : (f : Trees Labelled) (d : Labelled) → every has_valid_kind f ≡ true → Within d (preorder f) → is_valid_kind d.kind ≡ true
 kinds_are none d v i = absurd i
 kinds_are (node e inner rest) d v i = elim i [
@@ -155,7 +109,7 @@ nodes_of f w =
     let r = and_parts (every has_room f) _ a.1 in
     let v = and_parts (every has_valid_kind f) _ r.1 in
     record {
-      label = λ d i. labels_are [] None f d a.0 r.0 i;
+      label = node_is_labelled f w;
       kind = λ d i. kinds_are f d v.0 i;
       order = preorder_rises node_label [] f (formed f w);
     }
@@ -182,28 +136,7 @@ chunks_rise order ancestry f n = ordered_flat (λ a b. Lt (node_label a) (node_l
 
 -- ---- the nodes of a word
 
-own_label : Word → Labelled → List Label
-own_label w e = cond (list_any (bytes_eq w) (own e.kind)) (e.label ∷ []) []
-
-list_is : (w : Word) (nodes : Trees Worded) → list_of w nodes ≡ flat_map (λ e. cond (has e w) (e.label ∷ []) []) (preorder nodes)
-list_is w none = refl
-list_is w (node e inner rest) = ap (λ (z : List Label). cond (has e w) (e.label ∷ []) [] ++ z) (
-    ap (λ (z : List Label). z ++ list_of w rest) (list_is w inner)
-    ∙ (ap (λ (z : List Label). flat_map (λ d. cond (has d w) (d.label ∷ []) []) (preorder inner) ++ z) (list_is w rest)
-    ∙ sym (flat_map-append (λ d. cond (has d w) (d.label ∷ []) []) (preorder inner) (preorder rest))))
-
-listed_is : (w : Word) (f : Trees Labelled) → list_of w (worded f) ≡ flat_map (own_label w) (preorder f)
-unfolding own_label
-listed_is w f = list_is w (worded f)
-    ∙ (ap (flat_map (λ e. cond (has e w) (e.label ∷ []) [])) (preorder_each worded_as f)
-    ∙ flat_map_mapped (λ e. cond (has e w) (e.label ∷ []) []) worded_as (preorder f))
-
-own_within : (w : Word) (e : Labelled) (m : Label) → Within m (own_label w e) → m ≡ e.label
-unfolding own_label
-own_within w e m h = within_own (list_any (bytes_eq w) (own e.kind)) e.label m h
-
 own_ascends : (w : Word) (e : Labelled) → Ascends (own_label w e)
-unfolding own_label
 own_ascends w e = ascends_own (list_any (bytes_eq w) (own e.kind)) e.label
 
 list_ascends : (w : Word) (f : Trees Labelled) → Nodes f → Ascends (list_of w (worded f))
@@ -212,52 +145,7 @@ list_ascends w f n = subst Ascends (sym (listed_is w f)) (
     (λ e i. own_ascends w e)
     (λ a b p q s u v x y. subst (λ (z : Label). Lt z v) (sym (own_within w a u x)) (subst (Lt a.label) (sym (own_within w b v y)) s)))
 
-listed_label : (w : Word) (f : Trees Labelled) → Nodes f → (m : Label) → Within m (list_of w (worded f)) → IsLabel m
-listed_label w f n m h =
-    let t = within_flat (own_label w) m (preorder f) (subst (Within m) (listed_is w f) h) in
-    subst IsLabel (sym (own_within w t.0 m t.2)) (n.label t.0 t.1)
-
 -- ---- words
-
-within_filter : {X : Type 0} (p : X → Bool) (x : X) (xs : List X) → Within x (filter p xs) → p x ≡ true
-within_filter p x [] h = absurd h
-within_filter p x (a ∷ xs) h = by (p a) refl h (within_filter p x xs)
-  where
-    by : (b : Bool) → p a ≡ b → Within x (cond b (a ∷ filter p xs) (filter p xs)) → (Within x (filter p xs) → p x ≡ true) → p x ≡ true
-    by true e h f = elim h [ inl q ↦ subst (λ z. p z ≡ true) (sym q) e | inr q ↦ f q ]
-    by false e h f = f h
-
-text_word : (w text : Word) → Within w (text_words text) → is_word w ≡ true
-text_word w text h = search within_filter
-
-name_word : (w name : Word) → Within w (name_words name) → is_word w ≡ true
-name_word w name h = let t = within_flat text_words w (name_pieces name) h in text_word w t.0 t.2
-
-own_word : (w : Word) (kind : Kind) → Within w (own kind) → is_word w ≡ true
-own_word w (Words text) h = text_word w text h
-own_word w (Element name attributes) h = elim (within_joined w (name_words name) (flat_map attribute_words attributes) h) [
-  | inl q ↦ name_word w name q
-  | inr q ↦ let t = within_flat attribute_words w attributes q in let a = t.0 in elim (within_joined w (name_words a.name) (text_words a.value) t.2) [ inl r ↦ name_word w a.name r | inr r ↦ text_word w a.value r ]
-]
-
-with_word_of : (v w : Word) (ws : List Word) → Within v (with_word w ws) → (v ≡ w) ⊎ Within v ws
-with_word_of v w [] h = elim h [ inl q ↦ inl q | inr q ↦ absurd q ]
-with_word_of v w (u ∷ us) h = by (below u w) (bytes_eq u w) h (with_word_of v w us)
-  where
-    by : (b c : Bool) → Within v (cond b (u ∷ with_word w us) (cond c (u ∷ us) (w ∷ u ∷ us))) → (Within v (with_word w us) → (v ≡ w) ⊎ Within v us) → (v ≡ w) ⊎ Within v (u ∷ us)
-    by true c h f = elim h [ inl q ↦ inr (inl q) | inr q ↦ elim (f q) [ inl r ↦ inl r | inr r ↦ inr (inr r) ] ]
-    by false true h f = inr h
-    by false false h f = elim h [ inl q ↦ inl q | inr q ↦ inr q ]
-
-in_order_of : (v : Word) (ws : List Word) → Within v (in_order ws) → Within v ws
-in_order_of v [] h = h
-in_order_of v (w ∷ ws) h = elim (with_word_of v w (in_order ws) h) [ inl q ↦ inl q | inr q ↦ inr (in_order_of v ws q) ]
-
-words_are : (f : Trees Labelled) (v : Word) → Within v (words (worded f)) → is_word v ≡ true
-words_are f v h =
-    let t = within_flat (λ (e : Worded). e.words) v (preorder (worded f)) (in_order_of v (flat_map (λ e. e.words) (preorder (worded f))) h) in
-    let u = within_in worded_as t.0 (preorder f) (subst (Within t.0) (preorder_each worded_as f) t.1) in
-    own_word v (u.0.kind) (subst (λ (z : Worded). Within v z.words) u.2 t.2)
 
 all_within : (P : Word → Type 0) (ws : List Word) → AllByRecursion P ws → (v : Word) → Within v ws → P v
 all_within P [] a v h = absurd h
@@ -273,11 +161,11 @@ words_rise nodes = sorted_ordered (words nodes) (in_order_rises (flat_map (λ e.
 
 -- ---- occurrences and counts
 
-occurrences_rise : ByteOrder → (f : Trees Labelled) → Nodes f → Ordered Before (occurrences (worded f))
-occurrences_rise order f n = ordered_flat Above Before (occurrences_of (worded f)) (words (worded f)) (words_rise (worded f))
+occurrences_rise : ByteOrder → (f : Trees Labelled) → IsTrue (is_well_formed f) → Nodes f → Ordered Before (occurrences (worded f))
+occurrences_rise order f g n = ordered_flat Above Before (occurrences_of (worded f)) (words (worded f)) (words_rise (worded f))
     (λ w i. ordered_map (λ (m : Label). (occurrence_key w m, [])) Before (list_of w (worded f)) (
     ordered_with Lt (λ a b. Before (occurrence_key w a, []) (occurrence_key w b, [])) (list_of w (worded f)) (λ a b p q s.
-    is_below (occurrence_key w a) (occurrence_key w b) (one_word w a b (words_are f w i) (listed_label w f n a p) (listed_label w f n b q) (lt_before a b s)))
+    is_below (occurrence_key w a) (occurrence_key w b) (one_word w a b (words_are f w i) (listed_label w f g a p) (listed_label w f g b q) (lt_before a b s)))
     (list_ascends w f n)))
     (λ v w p q s x y k l.
     let t = within_in (λ (m : Label). (occurrence_key v m, [])) x (list_of v (worded f)) k in
@@ -321,7 +209,7 @@ apart a b d e l h k = subst (λ (z : List ℕ). below z e.0 ≡ true) (sym h.1) 
 pub images_rise : ByteOrder → Ancestry → ImagesRise
 images_rise order ancestry f w =
     let n = nodes_of f w in
-    let later = ordered_joined Before (occurrences (worded f)) (counts (worded f)) (occurrences_rise order f n) (counts_rise (worded f))
+    let later = ordered_joined Before (occurrences (worded f)) (counts (worded f)) (occurrences_rise order f w n) (counts_rise (worded f))
     (λ u r p q. apart 2 3 u r (omega arith) (occurrences_headed (worded f) u p) (counts_headed (worded f) r q)) in
     record {
       rises = rises (image f) (ordered_joined Before (chunks f) (occurrences (worded f) ++ counts (worded f)) (chunks_rise order ancestry f n) later

@@ -4,3 +4,4 @@ pub mod Image
 pub mod Laws
 pub mod Examples
 pub mod Inside
+pub mod Facts

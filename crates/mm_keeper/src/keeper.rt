@@ -34,6 +34,9 @@ pub trait Keeper {
     /// What every call needs and keeps.
     ghost is_sound: { Self → Type 0 };
 
+    /// It has one proof at most, so that what holds a keeper may keep it in a field.
+    ghost sound_prop: { (k : Self) → IsProp (is_sound k) };
+
     /// The maps, and what the spots stand for.
     ghost seen: { Self → Seen Self.Spot };
 
@@ -207,9 +210,6 @@ pub trait Keeper {
     /// How often the disk below has found no memory; without a disk 0.
     fn wants(&self) -> u64
         ensures { result ≡ want_count self.now };
-
-    /// What every call needs has one proof at most, so that what holds a keeper may keep it in a field.
-    ghost sound_prop: { (k : Self) → IsProp (is_sound k) };
 
     /// A keeper's map is sorted.
     ghost sorted: { (k : Self) → is_sound k → has_maps k → IsSorted (seen k).now };

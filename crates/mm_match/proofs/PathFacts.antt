@@ -4,13 +4,13 @@ use Rattle.std.specs.Int.Bits.{bit_or}
 use Rattle.std.specs.Ordering.{int_cmp, is_eq}
 use Rattle.std.specs.Cmp.Lexicographic.{slice_cmp}
 use Rattle.std.proofs.lemmas.Bool.{and_parts, and_from}
+use Rattle.mm_list.specs.Facts.{drop_at}
 use Rattle.mm_label.specs.Label.{whole}
 use Rattle.mm_match.specs.declared.mark.Mark.{Mark}
 use Rattle.mm_label.specs.Fronts.{Label, Front, is_front, Meets, same, parent, unless_empty, or_empty}
 use Rattle.mm_match.specs.Marks.{labels, IsOnPath, at_or_below, mask_from, mask_at}
 use Rattle.mm_match.specs.Inside.Passing.{is_between, more, let_in, gathered, is_above}
 use Rattle.mm_label.specs.Facts.Fronts.{front_refl, front_trans, front_yes, is_front_of, front_no, same_is, same_of}
-use Rattle.mm_match.proofs.Siblings.{here}
 use Rattle.mm_match.proofs.Ties.{key_is, key_of}
 use Rattle.mm_label.specs.Facts.Parents.{up, parent_front, parent_shorter, front_length}
 use Rattle.mm_label.specs.Facts.Children.{front_none}
@@ -179,4 +179,4 @@ gathered_path root x n (m ∷ ms) e = by (is_between root x m.label) refl (gathe
 pub gathered_next : (root x : Label) (before after : Option ℕ) (all : List Mark) (i : ℕ) (m : Mark) (total : Option ℕ) → i < length all → m ≡ get_or all i m
     → after ≡ let_in root x m before → gathered root x before (drop i all) ≡ total → gathered root x after (drop (i + 1) all) ≡ total
 gathered_next root x before after all i m total h e a same =
-    ap (λ (o : Option ℕ). gathered root x o (drop (i + 1) all)) a ∙ (ap (gathered root x before) (sym (here all i m h e)) ∙ same)
+    ap (λ (o : Option ℕ). gathered root x o (drop (i + 1) all)) a ∙ (ap (gathered root x before) (sym (drop_at all i m h e)) ∙ same)

@@ -1,5 +1,5 @@
 -- The distinct masks of siblings, by their parent.
-use Rattle.std.proofs.Common.{◌+◌, ◌<◌, length, get_or, drop, drop-cons, add-one, ap₂, nat_eq, ◌≡◌, Bool, true, false, ◌&&◌, ◌||◌, cond, ℕ, List, [], ◌∷◌, ◌++◌, refl, ap, sym, subst, ◌∙◌, Option, Some, None}
+use Rattle.std.proofs.Common.{◌+◌, ◌<◌, length, get_or, drop, ap₂, nat_eq, ◌≡◌, Bool, true, false, ◌&&◌, ◌||◌, cond, ℕ, List, [], ◌∷◌, ◌++◌, refl, ap, sym, subst, ◌∙◌, Option, Some, None}
 use Rattle.std.specs.Prelude.{unwrap_or}
 use Rattle.std.proofs.lemmas.Bool.{eqb-true}
 use Rattle.std.specs.BTreeMap.{BTreeMap, get}
@@ -7,6 +7,7 @@ use Rattle.std.specs.List.{list_any}
 use Rattle.std.specs.Option.{option_cmp}
 use Rattle.std.specs.Ordering.{int_cmp, is_eq}
 use Rattle.std.specs.Cmp.Lexicographic.{slice_cmp}
+use Rattle.mm_list.specs.Facts.{drop_at}
 use Rattle.mm_match.specs.declared.mark.Mark.{Mark}
 use Rattle.mm_label.specs.Fronts.{Label, is_front, same, parent, unless_empty}
 use Rattle.mm_match.specs.Marks.{under, is_rival, is_beaten}
@@ -112,13 +113,10 @@ contained v mask masks h = by (list_any (under v) masks) (under v mask) refl ref
 
 -- ---- one mark after the other
 
-pub here : (ms : List Mark) (i : ℕ) (m : Mark) → i < length ms → m ≡ get_or ms i m → drop i ms ≡ m ∷ drop (i + 1) ms
-here ms i m h e = drop-cons ms i m h ∙ ap₂ (λ n k. n ∷ drop k ms) (sym e) (sym (add-one i))
-
 pub any_next : (t : Mark → Bool) (all : List Mark) (i : ℕ) (m : Mark) (before after total : Bool) → i < length all → m ≡ get_or all i m → after ≡ (before || t m)
     → (before || list_any t (drop i all)) ≡ total → (after || list_any t (drop (i + 1) all)) ≡ total
 any_next t all i m before after total h e a same =
-    ap (λ (b : Bool). b || list_any t (drop (i + 1) all)) a ∙ (assoc before (t m) (list_any t (drop (i + 1) all)) ∙ (ap (λ (ms : List Mark). before || list_any t ms) (sym (here all i m h e)) ∙ same))
+    ap (λ (b : Bool). b || list_any t (drop (i + 1) all)) a ∙ (assoc before (t m) (list_any t (drop (i + 1) all)) ∙ (ap (λ (ms : List Mark). before || list_any t ms) (sym (drop_at all i m h e)) ∙ same))
   where
     assoc : (p q r : Bool) → ((p || q) || r) ≡ (p || (q || r))
     assoc true q r = refl
@@ -128,4 +126,4 @@ pub thin_next : (all out more : List Mark) (cut next : Option Label) (i : ℕ) (
     → (more ≡ taken beaten out cut m) × (next ≡ next_cut beaten cut m) → out ++ thin (is_beaten all) cut (drop i all) ≡ total → more ++ thin (is_beaten all) next (drop (i + 1) all) ≡ total
 thin_next all out more cut next i m beaten total h e b t same =
     ap₂ (λ (o : List Mark) (c : Option Label). o ++ thin (is_beaten all) c (drop (i + 1) all)) (t.0 ∙ ap (λ (u : Bool). taken u out cut m) b) (t.1 ∙ ap (λ (u : Bool). next_cut u cut m) b)
-    ∙ (sym (thin_step (is_beaten all) out cut m (drop (i + 1) all)) ∙ (ap (λ (ms : List Mark). out ++ thin (is_beaten all) cut ms) (sym (here all i m h e)) ∙ same))
+    ∙ (sym (thin_step (is_beaten all) out cut m (drop (i + 1) all)) ∙ (ap (λ (ms : List Mark). out ++ thin (is_beaten all) cut ms) (sym (drop_at all i m h e)) ∙ same))

@@ -7,5 +7,6 @@ mod Moves
 mod Setting
 mod Splitting
 mod Linking
+mod Heading
 mod Finding
 mod Valid

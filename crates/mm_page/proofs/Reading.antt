@@ -1,5 +1,5 @@
 -- What is read is what was written, and right cells are a leaf.
-use Rattle.std.proofs.Common.{◌≡◌, ℕ, zero, suc, ◌+◌, ◌*◌, ◌-◌, ◌≤◌, ◌<◌, true, false, Some, None, List, [], ◌∷◌, ◌++◌, length, get_or, refl, sym, ap, ap₂, ◌∙◌, subst, arith, ◌==◌, nat_lt}
+use Rattle.std.proofs.Common.{◌≡◌, ℕ, zero, suc, ◌+◌, ◌*◌, ◌≤◌, ◌<◌, true, false, Some, None, List, [], ◌∷◌, ◌++◌, length, get_or, refl, sym, ap, ap₂, ◌∙◌, subst, arith, ◌==◌, nat_lt}
 use Rattle.std.proofs.lemmas.List.{length-append}
 use Rattle.mm_keeper.specs.Entries.{Entries, below, IsBelow, Rises}
 use Rattle.mm_page.specs.Limits.{AreWithin}
@@ -8,7 +8,7 @@ use Rattle.mm_page.specs.Rules.{cell_fault, fault_from, fault_of, broken}
 use Rattle.mm_page.specs.Inside.Rows.{IsCell, AreCells}
 use Rattle.mm_page.specs.declared.rules.Violation.{Violation}
 use Rattle.mm_page.proofs.Blocks.{block-glue, block-length}
-use Rattle.mm_page.proofs.Order.{below_chain}
+use Rattle.mm_keeper.specs.Facts.Keys.{below_chain}
 use Rattle.mm_page.proofs.Rows.{slots-length}
 
 -- each key is below the next one, the first above a last one

@@ -7,7 +7,7 @@ use Rattle.mm_page.specs.Leaf.{block, pasted, Stands, two, number_at, cell, cell
 use Rattle.mm_page.specs.Inside.Rows.{IsRow}
 use Rattle.mm_page.proofs.Blocks.{stands-split, stands-join, put-same, put-before, put-after, put-length, put-next}
 use Rattle.mm_page.proofs.Rows.{cells-app, cells-size, cell-length, cell-there, leaf-entry, place-next}
-use Rattle.mm_page.proofs.Moves.{IsMoved, leaf-parts, row-of}
+use Rattle.mm_page.proofs.Moves.{IsMoved, moved, leaf-parts, row-of}
 
 pub revalued-parts : (m : Entries) (i : ℕ) (v : List ℕ) (d : List ℕ × List ℕ) → i < length m → revalued m i v ≡ take i m ++ (((get_or m i d).0, v) ∷ drop (suc i) m)
 revalued-parts [] i v d h = absurd (omega (arith, h))
@@ -36,6 +36,7 @@ AreWithin-revalued (e ∷ m) (suc i) v l h = (h.0, h.1, h.2, AreWithin-revalued 
 
 -- the places and lengths of a change of the value of cell i
 pub record IsSetting (old : List ℕ) (v : List ℕ) (i n at to end key : ℕ) : Type 0 where
+  pub size : length old ≡ 4096
   pub start : 16 + 2 * n ≤ at
   pub order : at + 4 + key ≤ to
   pub last : to ≤ end
@@ -66,6 +67,7 @@ setting old v i n at to end key h en il ea et ee ek room =
       cell-length (e.0, v),
     ) in
     record {
+      size = h.size;
       start = omega (arith, ea, en);
       order = omega (arith, ea, et, pn, k, cell-length e);
       last = omega (arith, et, ee, p'.total);
@@ -79,7 +81,7 @@ pub set-done : (old v : List ℕ) (i n at to end key : ℕ) (s1 s2 s3 : List ℕ
     → length v ≤ 1024 → size (revalued (entries_of old) i v) ≤ 4080 → IsSetting old v i n at to end key
     → s1 ≡ pasted old (at + 4 + key + length v) (block to (end - to) old)
     → s2 ≡ pasted s1 (at + 2) (two (length v))
-    → s3 ≡ pasted s2 (at + 4 + key) v → IsMoved old s3 (revalued (entries_of old) i v)
+    → s3 ≡ pasted s2 (at + 4 + key) v → IsMoved old s3 n (revalued (entries_of old) i v)
 set-done old v i n at to end key s1 s2 s3 h en il ea et v1 room w q1 q2 q3 =
     let m = entries_of old in
     let e = get_or m i ([], []) in
@@ -118,9 +120,8 @@ set-done old v i n at to end key s1 s2 s3 h en il ea et v1 room w q1 q2 q3 =
     let b3 : Stands (at + length (cell (k, v))) b s3 = subst (λ t. Stands t b s3) g (put-after s2 (at + 4 + key) v (at + 4 + key + length v) b q3 (omega arith) b2
     (put-after s1 (at + 2) (two (length v)) (at + 4 + key + length v) b q2 (omega arith) b1 (put-same old (at + 4 + key + length v) b y1 b0))) in
     let rp : revalued m i v ≡ take i m ++ ((k, v) ∷ drop (suc i) m) = revalued-parts m i v ([], []) il in
-    record {
-      row = subst (λ t. IsRow s3 t) (sym rp) (row-of s3 (take i m) ((k, v) ∷ drop (suc i) m) s l3 (omega (arith, es, ap length rp, revalued-length m i v)) a3
-          (subst (λ t. Stands t (cell (k, v) ++ b) s3) ea' (stands-join at (cell (k, v)) b s3 c b3))
-          (subst (λ t. size t ≤ 4080) rp room) (subst (λ t. AreWithin t) rp (AreWithin-revalued m i v v1 h.holds.limits)) (subst (λ t. Rises t) rp (Rises-revalued m i v h.holds.rises)));
-      next = put-next s2 (at + 4 + key) v q3 (omega (arith, ea')) b2 ∙ put-next s1 (at + 2) (two (length v)) q2 (omega (arith, ea')) b1 ∙ put-next old (at + 4 + key + length v) b y1 (omega (arith, ea')) b0;
-    }
+    moved old s3 n (revalued m i v) (omega (arith, en, revalued-length m i v))
+    (subst (λ t. IsRow s3 t) (sym rp) (row-of s3 (take i m) ((k, v) ∷ drop (suc i) m) s l3 (omega (arith, es, ap length rp, revalued-length m i v)) a3
+    (subst (λ t. Stands t (cell (k, v) ++ b) s3) ea' (stands-join at (cell (k, v)) b s3 c b3))
+    (subst (λ t. size t ≤ 4080) rp room) (subst (λ t. AreWithin t) rp (AreWithin-revalued m i v v1 h.holds.limits)) (subst (λ t. Rises t) rp (Rises-revalued m i v h.holds.rises))))
+    (put-next s2 (at + 4 + key) v q3 (omega (arith, ea')) b2 ∙ put-next s1 (at + 2) (two (length v)) q2 (omega (arith, ea')) b1 ∙ put-next old (at + 4 + key + length v) b y1 (omega (arith, ea')) b0)

@@ -2,7 +2,6 @@
 use Rattle.std.proofs.Common.{◌≡◌, ℕ, zero, suc, ◌+◌, ◌*◌, ◌-◌, ◌≤◌, ◌<◌, List, [], ◌∷◌, ◌++◌, length, take, drop, replicate, get_or, refl, sym, ap, ap₂, ◌∙◌, subst, arith, append-nil}
 use Rattle.std.proofs.lemmas.List.{length-take-le, drop_at, length-replicate, take_all, drop_all}
 use Rattle.mm_keeper.specs.Entries.{Entries}
-use Rattle.mm_page.specs.Limits.{size}
 use Rattle.mm_page.specs.Leaf.{pasted, Stands, two, first_two, number_at, cells, slots, cell_end, entries_at, entries_of, Holds, IsLeaf, IsTidy, place_in, next_of}
 use Rattle.mm_page.specs.Inside.Rows.{IsRow}
 use Rattle.mm_page.proofs.Blocks.{stands-split, stands-join, stands-before, stands-after, pasted-more, pasted-after, pasted-before, pasted-same, pasted-length, next-same}

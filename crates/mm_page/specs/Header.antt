@@ -1,5 +1,5 @@
 -- Page 0: the head of a paged store.
-use Rattle.std.specs.Prelude.{ℕ, ◌^◌, ◌==◌, ◌++◌, List, drop, replicate, Option, Some, None, if◌then◌else◌, nat_lt}
+use Rattle.std.specs.Prelude.{ℕ, ◌^◌, ◌==◌, ◌++◌, List, drop, replicate, Option, None, if◌then◌else◌, nat_lt}
 use Rattle.byteorder.specs.Endian.{big_number, big_bytes}
 use Rattle.mm_page.specs.Rules.{broken}
 use Rattle.mm_page.specs.declared.header.Header.{Header}

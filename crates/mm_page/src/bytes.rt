@@ -36,7 +36,8 @@ pub(crate) fn read_eight(bytes: &[u8], at: usize) -> u64
 pub(crate) fn write_two(bytes: &mut [u8], at: usize, n: usize)
     requires room { at + 2 ≤ length bytes.old }
     requires small { n < 65536 }
-    ensures { bytes.new ≡ pasted bytes.old at (two n) }
+    ensures bytes { bytes.new ≡ pasted bytes.old at (two n) }
+    ensures length { length bytes.new ≡ length bytes.old }
 {
     bytes[at] = (n / 256) as u8;
     bytes[at + 1] = (n % 256) as u8;
@@ -45,7 +46,8 @@ pub(crate) fn write_two(bytes: &mut [u8], at: usize, n: usize)
 /// Writes a number as eight bytes, the highest first.
 pub(crate) fn write_eight(bytes: &mut [u8], at: usize, n: u64)
     requires { at + 8 ≤ length bytes.old }
-    ensures { bytes.new ≡ pasted bytes.old at (big_bytes 8 n) }
+    ensures bytes { bytes.new ≡ pasted bytes.old at (big_bytes 8 n) }
+    ensures length { length bytes.new ≡ length bytes.old }
 {
     let part = n.to_be_bytes();
     write_part(bytes, at, &part);
@@ -54,7 +56,8 @@ pub(crate) fn write_eight(bytes: &mut [u8], at: usize, n: u64)
 /// Writes bytes at a place.
 pub(crate) fn write_part(bytes: &mut [u8], at: usize, part: &[u8])
     requires { at + length part.now ≤ length bytes.old }
-    ensures { bytes.new ≡ pasted bytes.old at part.now }
+    ensures bytes { bytes.new ≡ pasted bytes.old at part.now }
+    ensures length { length bytes.new ≡ length bytes.old }
 {
     bytes[at..at + part.len()].copy_from_slice(part);
 }
@@ -63,7 +66,8 @@ pub(crate) fn write_part(bytes: &mut [u8], at: usize, part: &[u8])
 pub(crate) fn move_part(bytes: &mut [u8], from: usize, n: usize, to: usize)
     requires from { from + n ≤ length bytes.old }
     requires to { to + n ≤ length bytes.old }
-    ensures { bytes.new ≡ pasted bytes.old to (block from n bytes.old) }
+    ensures bytes { bytes.new ≡ pasted bytes.old to (block from n bytes.old) }
+    ensures length { length bytes.new ≡ length bytes.old }
 {
     bytes.copy_within(from..from + n, to);
 }
@@ -81,7 +85,8 @@ pub(crate) fn write_cell(bytes: &mut [u8], at: usize, key: &[u8], value: &[u8])
     requires room { at + 4 + length key.now + length value.now ≤ length bytes.old }
     requires key { length key.now ≤ 800 }
     requires value { length value.now ≤ 1024 }
-    ensures { bytes.new ≡ pasted bytes.old at (cell (key.now, value.now)) }
+    ensures bytes { bytes.new ≡ pasted bytes.old at (cell (key.now, value.now)) }
+    ensures length { length bytes.new ≡ length bytes.old }
 {
     write_two(bytes, at, key.len());
     write_two(bytes, at + 2, value.len());

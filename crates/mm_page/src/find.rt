@@ -28,9 +28,7 @@ fn key_in(bytes: &[u8], index: usize) -> &[u8]
     requires index { index < length (entries_of bytes.now) }
     ensures { result.now ≡ (get_or (entries_of bytes.now) index ([], [])).0 }
 {
-    let at = read_two(bytes, 16 + 2 * index);
-    let key = read_two(bytes, at);
-    part(bytes, at + 4, key)
+    entry_in(bytes, index).key
 }
 
 fn is_below(bytes: &[u8], index: usize, key: &[u8]) -> bool

@@ -1,5 +1,5 @@
 // Page 0, the head of a paged store.
-ghost use Rattle.std.specs.Prelude.{◌≡◌, Option, IfOk, OnOk, IfErr};
+ghost use Rattle.std.specs.Prelude.{◌≡◌, ◌≤◌, ◌^◌, ◌↔◌, Option, IfOk, OnOk, IfErr};
 ghost use Rattle.mm_page.specs.Header.{header_of, header_fault, header_bytes};
 
 use crate::bytes::{read_eight, write_eight};
@@ -46,9 +46,11 @@ impl Header {
         })
     }
 
-    /// The bytes of page 0 with this header.
+    /// The bytes of page 0 with this header. They are read back as it, where it keeps the rules.
     pub fn to_bytes(self) -> [u8; 4096]
-        ensures { result ≡ header_bytes self }
+        ensures bytes { result ≡ header_bytes self }
+        ensures reads_back { header_of result ≡ self }
+        ensures sound { (header_fault result ≡ Option.None) ↔ ((2 ≤ self.pages) × (self.pages ≤ 2 ^ 43)) }
     {
         let mut bytes = [0; 4096];
         write_eight(&mut bytes, 0, MARK);

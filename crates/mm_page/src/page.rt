@@ -125,7 +125,7 @@ impl Page {
     }
 
     /// Puts an entry in at the index where its key belongs. What isn't read is written as 00.
-    #[tactic(auto, using(crate::proofs::Finding::rank_length))]
+    #[tactic(auto, using(mm_keeper::specs::Facts::Keys::rank_at_most))]
     pub fn insert(&mut self, index: usize, key: &[u8], value: &[u8])
         requires index { index ≡ rank (entries_of self.old) key.now }
         requires fresh { has (entries_of self.old) key.now ≡ false }

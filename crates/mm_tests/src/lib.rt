@@ -21,6 +21,8 @@ mod lists;
 #[cfg(test)]
 mod matches;
 #[cfg(test)]
+mod pages;
+#[cfg(test)]
 mod trees;
 #[cfg(test)]
 mod words;

@@ -23,7 +23,7 @@ use Rattle.mm_tree.proofs.NumberForm.{number_form, valid_numbered}
 use Rattle.mm_tree.specs.Facts.Formed.{parts}
 use Rattle.mm_tree.proofs.LoadFacts.{no_fit, no_fit_either, all_room, rises_is}
 use Rattle.mm_tree.proofs.WayLaws.{label_is, within, is_found, present, found_is, edit_is, gap_is, labels_of}
-use Rattle.mm_tree.proofs.PlaceFacts.{node_of_out}
+use Rattle.mm_tree.specs.Facts.Walks.{node_of_out}
 use Rattle.mm_tree.proofs.FormLaws.{Suits, falls, put_keeps, delete_keeps, replace_keeps}
 use Rattle.mm_tree.proofs.EveryLaws.{Lenient, every_put, every_delete, every_replace}
 use Rattle.mm_tree.proofs.LevelLaws.{is_shallow, level_append, one_level, child_level, shallow, shallow_only, number_shallow}

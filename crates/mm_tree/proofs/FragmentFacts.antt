@@ -1,8 +1,9 @@
 -- How fragments are made: rows of siblings, and the contributors among them, one after the other.
-use Rattle.std.proofs.Common.{◌≡◌, ℕ, ◌+◌, ◌<◌, ◌≤◌, Bool, true, false, cond, not, ◌&&◌, List, [], ◌∷◌, ◌++◌, length, get_or, drop, drop-cons, add-one, map, ap, ap₂, refl, sym, ◌∙◌, append-nil, append_assoc}
+use Rattle.std.proofs.Common.{◌≡◌, ℕ, ◌+◌, ◌<◌, ◌≤◌, Bool, true, false, cond, not, ◌&&◌, List, [], ◌∷◌, ◌++◌, length, get_or, drop, map, ap, ap₂, refl, sym, ◌∙◌, append-nil, append_assoc}
 use Rattle.std.specs.Prelude.{ℤ, bytes_eq}
 use Rattle.std.specs.List.{list_all, list_any, filter}
 use Rattle.std.proofs.lemmas.List.{drop_all, map-append}
+use Rattle.mm_list.specs.Facts.{drop_at}
 use Rattle.mm_tree.specs.declared.fragment.Fragment.{Fragment}
 use Rattle.mm_tree.specs.declared.fragment.Fragment.TheFolds.{fold-roll-Fragment}
 use Rattle.mm_tree.specs.declared.fragment.Fragment.TheViews.{roll-Fragment}
@@ -15,7 +16,7 @@ use Rattle.mm_tree.specs.Search.{is_full, own, worded, held_by}
 use Rattle.mm_tree.specs.Inside.Searching.{worded_node}
 use Rattle.mm_tree.specs.Fragments.{Named, named, named_as, bare, bares, row_of, rows_of, some, less, contributes, contributors, shown, fragment, fragment_step, fragment_tree, fragment_trees, named_tree}
 use Rattle.mm_tree.specs.Inside.Fragmenting.{named_node, stands_out}
-use Rattle.mm_tree.proofs.PlaceFacts.{node_of_out}
+use Rattle.mm_tree.specs.Facts.Walks.{node_of_out}
 use Rattle.mm_tree.proofs.SearchFacts.{all_held}
 
 -- the contributors as a list
@@ -45,11 +46,8 @@ known ns = named (forest_of ns)
 abbrev pub kids : Node → Trees Named
 kids n = known (out-Node n).children
 
-here : (ns : List Node) (i : ℕ) (n : Node) → i < length ns → n ≡ get_or ns i n → drop i ns ≡ n ∷ drop (i + 1) ns
-here ns i n h e = drop-cons ns i n h ∙ ap₂ (λ m k. m ∷ drop k ns) (sym e) (sym (add-one i))
-
 known_next : (ns : List Node) (i : ℕ) (n : Node) → i < length ns → n ≡ get_or ns i n → known (drop i ns) ≡ node (named_node n) (kids n) (known (drop (i + 1) ns))
-known_next ns i n h e = ap known (here ns i n h e) ∙ ap (λ (t : Tree Labelled). named (node t.0 t.1 (forest_of (drop (i + 1) ns)))) (node_of_out n)
+known_next ns i n h e = ap known (drop_at ns i n h e) ∙ ap (λ (t : Tree Labelled). named (node t.0 t.1 (forest_of (drop (i + 1) ns)))) (node_of_out n)
 
 pub row_is : (query : List (List ℕ)) (n : Node) (row : List Bool) → row ≡ held_by query (worded_node n) (worded (forest_of (out-Node n).children)) → row ≡ row_of query (named_node n) (kids n)
 row_is query n row e = e ∙ ap (held_by query (worded_node n)) (sym (bares_named (forest_of (out-Node n).children)))

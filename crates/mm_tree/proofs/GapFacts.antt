@@ -11,7 +11,8 @@ use Rattle.mm_tree.specs.Trees.{node, Tree}
 use Rattle.mm_tree.specs.Numbering.{Labelled, node_of, forest_of}
 use Rattle.mm_tree.specs.Edits.{Gap, first_label, last_label, gap_at}
 use Rattle.mm_tree.specs.Inside.Ways.{leads_to, gap_down, node_label, label_before, gap_here}
-use Rattle.mm_tree.proofs.PlaceFacts.{labelled, node_of_out, off_way, is_at, one_more, get_next, get_none}
+use Rattle.mm_tree.specs.Facts.Walks.{labelled, node_of_out}
+use Rattle.mm_tree.proofs.PlaceFacts.{off_way, is_at, one_more, get_next, get_none}
 
 -- the label before the i-th of the siblings, behind one on the left
 abbrev left_at : Option (List ℤ) → List Node → ℕ → Option (List ℤ)

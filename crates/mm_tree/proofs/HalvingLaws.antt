@@ -19,7 +19,8 @@ use Rattle.mm_tree.specs.Edits.{has_node}
 use Rattle.mm_tree.specs.Inside.Ways.{AreSiblings, leads_to, found_down, is_passed}
 use Rattle.mm_tree.specs.Facts.Formed.{front_splits, parts}
 use Rattle.mm_tree.proofs.OrderLaws.{Under, rises_more, before_is, side_after}
-use Rattle.mm_tree.proofs.PlaceFacts.{labelled, node_of_out, is_at, get_next, get_none}
+use Rattle.mm_tree.proofs.PlaceFacts.{is_at, get_next, get_none}
+use Rattle.mm_tree.specs.Facts.Walks.{labelled, node_of_out}
 use Rattle.mm_tree.proofs.WayLaws.{before_irreflexive, found_is, leads_home, not_found, within}
 
 abbrev pub passed : List ℤ → Node → Bool

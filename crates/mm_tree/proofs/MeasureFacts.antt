@@ -1,8 +1,9 @@
 -- Levels and nodes of trees, one tree after the other.
-use Rattle.std.proofs.Common.{◌≡◌, ℕ, ◌+◌, ◌<◌, ◌≤◌, ◌-◌, ◌^◌, min, true, List, ◌∷◌, length, get_or, drop, ap, sym, ◌∙◌, add-one, arith, drop-cons}
+use Rattle.std.proofs.Common.{◌≡◌, ℕ, ◌+◌, ◌<◌, ◌≤◌, ◌-◌, ◌^◌, min, true, List, length, get_or, drop, ap, ◌∙◌, arith}
 use Rattle.std.specs.Prelude.{max, nat_lt}
 use Rattle.std.proofs.lemmas.Bool.{ltb-true, and_parts}
 use Rattle.std.proofs.lemmas.List.{drop_all}
+use Rattle.mm_list.specs.Facts.{drop_at}
 use Rattle.mm_tree.specs.declared.plain.Kind.{Kind}
 use Rattle.mm_tree.specs.declared.plain.Kind.TheVariants.{Element, Words}
 use Rattle.mm_tree.specs.declared.plain.Plain.{Plain}
@@ -10,18 +11,15 @@ use Rattle.mm_tree.specs.declared.plain.Plain.TheViews.{out-Plain}
 use Rattle.mm_tree.specs.Trees.{Trees, none, node, Tree, one, every, levels, nodes, trees_of, tree_of_out}
 use Rattle.mm_tree.specs.Validity.{piece_count, pieces, is_valid_node, is_valid_tree}
 
-next_is : (xs : List Plain) (i : ℕ) (x : Plain) → i < length xs → x ≡ get_or xs i x → drop i xs ≡ x ∷ drop (i + 1) xs
-next_is xs i x h e = drop-cons xs i x h ∙ (λ j. sym e j ∷ drop (sym (add-one i) j) xs)
-
 pub levels_next : (xs : List Plain) (i : ℕ) (x : Plain) → i < length xs → x ≡ get_or xs i x
     → levels (trees_of (drop i xs)) ≡ max (1 + levels (trees_of (out-Plain x).children)) (levels (trees_of (drop (i + 1) xs)))
 levels_next xs i x h e =
-    ap (λ (zs : List Plain). levels (trees_of zs)) (next_is xs i x h e) ∙ ap (λ (t : Tree Kind). max (1 + levels t.1) (levels (trees_of (drop (i + 1) xs)))) (tree_of_out x)
+    ap (λ (zs : List Plain). levels (trees_of zs)) (drop_at xs i x h e) ∙ ap (λ (t : Tree Kind). max (1 + levels t.1) (levels (trees_of (drop (i + 1) xs)))) (tree_of_out x)
 
 pub nodes_next : (xs : List Plain) (i : ℕ) (x : Plain) → i < length xs → x ≡ get_or xs i x
     → nodes (trees_of (drop i xs)) ≡ 1 + nodes (trees_of (out-Plain x).children) + nodes (trees_of (drop (i + 1) xs))
 nodes_next xs i x h e =
-    ap (λ (zs : List Plain). nodes (trees_of zs)) (next_is xs i x h e) ∙ ap (λ (t : Tree Kind). 1 + nodes t.1 + nodes (trees_of (drop (i + 1) xs))) (tree_of_out x)
+    ap (λ (zs : List Plain). nodes (trees_of zs)) (drop_at xs i x h e) ∙ ap (λ (t : Tree Kind). 1 + nodes t.1 + nodes (trees_of (drop (i + 1) xs))) (tree_of_out x)
 
 abbrev limit : ℕ
 limit = 18446744073709551615

@@ -4,19 +4,14 @@ use Rattle.std.specs.Prelude.{ℤ, Option, Some, None, if◌then◌else◌, slic
 use Rattle.std.specs.List.{prefix_len}
 use Rattle.mm_tree.specs.declared.node.Node.{Node}
 use Rattle.mm_tree.specs.declared.node.Node.TheViews.{roll-Node, out-Node, roll-out-Node}
-use Rattle.mm_tree.specs.declared.node.Node.TheFolds.{fold-roll-Node, fold_out-Node}
+use Rattle.mm_tree.specs.declared.node.Node.TheFolds.{fold-roll-Node}
 use Rattle.mm_tree.specs.declared.forest.place.Place.TheVariants.{Before, After, First, Last}
 use Rattle.mm_tree.specs.Trees.{Trees, node, Tree, one}
 use Rattle.mm_tree.specs.Numbering.{Labelled, node_of, node_step, forest_of}
 use Rattle.mm_tree.specs.Forests.{and_then}
 use Rattle.mm_tree.specs.Edits.{has_label, Change, taken_out, put_instead, put}
+use Rattle.mm_tree.specs.Facts.Walks.{labelled, node_of_out}
 use Rattle.mm_tree.specs.Inside.Ways.{leads_to, found_down, edit_down, at_index}
-
-abbrev pub labelled : Node → Labelled
-labelled n = record { label = (out-Node n).label; kind = (out-Node n).kind }
-
-pub node_of_out : (n : Node) → node_of n ≡ (labelled n, forest_of (out-Node n).children)
-node_of_out n = fold_out-Node (Tree Labelled) node_step n
 
 -- not on the way
 abbrev pub off_way : List ℤ → Node → Bool

@@ -1,5 +1,5 @@
 -- Which trees hold the words of a query, and where the answers among them are.
-use Rattle.std.proofs.Common.{◌≡◌, ℕ, ◌+◌, ◌<◌, ◌≤◌, Bool, true, false, cond, not, ◌&&◌, ◌||◌, List, [], ◌∷◌, ◌++◌, length, get_or, drop, drop-cons, add-one, map, ap, ap₂, refl, sym, ◌∙◌, append-nil, append_assoc, bytes_eq}
+use Rattle.std.proofs.Common.{◌≡◌, ℕ, ◌+◌, ◌<◌, ◌≤◌, Bool, true, false, cond, not, ◌&&◌, ◌||◌, List, [], ◌∷◌, ◌++◌, length, get_or, drop, map, ap, ap₂, refl, sym, ◌∙◌, append-nil, append_assoc, bytes_eq}
 use Rattle.std.specs.Prelude.{ℤ}
 use Rattle.std.specs.List.{list_all, list_any}
 use Rattle.std.proofs.lemmas.Cmp.{nat_list_eq_equiv}
@@ -12,8 +12,9 @@ use Rattle.mm_tree.specs.Inside.Searching.{either, held, own_answer, worded_node
 use Rattle.mm_tree.proofs.FlagFacts.{either_tests, either_twice, either_never, or_false, or_assoc}
 use Rattle.std.proofs.lemmas.List.{drop_all}
 use Rattle.std.proofs.lemmas.Bool.{or_parts}
+use Rattle.mm_list.specs.Facts.{drop_at}
 use Rattle.mm_tree.specs.Facts.Full.{full_of_child}
-use Rattle.mm_tree.proofs.PlaceFacts.{node_of_out}
+use Rattle.mm_tree.specs.Facts.Walks.{node_of_out}
 
 -- ---- full nodes
 
@@ -59,11 +60,8 @@ seen_first n ns = ap (λ (t : Tree Labelled). worded (node t.0 t.1 (forest_of ns
 pub seen_one : (n : Node) → worded (one (node_of n)) ≡ node (worded_node n) (inside n) none
 seen_one n = ap (λ (t : Tree Labelled). worded (one t)) (node_of_out n)
 
-here : (ns : List Node) (i : ℕ) (n : Node) → i < length ns → n ≡ get_or ns i n → drop i ns ≡ n ∷ drop (i + 1) ns
-here ns i n h e = drop-cons ns i n h ∙ ap₂ (λ m k. m ∷ drop k ns) (sym e) (sym (add-one i))
-
 pub seen_next : (ns : List Node) (i : ℕ) (n : Node) → i < length ns → n ≡ get_or ns i n → seen (drop i ns) ≡ node (worded_node n) (inside n) (seen (drop (i + 1) ns))
-seen_next ns i n h e = ap seen (here ns i n h e) ∙ seen_first n (drop (i + 1) ns)
+seen_next ns i n h e = ap seen (drop_at ns i n h e) ∙ seen_first n (drop (i + 1) ns)
 
 -- the same test, with the words the other way round
 pub any_turned : (w : List ℕ) (ws : List (List ℕ)) → list_any (λ v. bytes_eq v w) ws ≡ list_any (bytes_eq w) ws

@@ -1,19 +1,15 @@
 -- The nodes of trees, one tree after the other.
-use Rattle.std.proofs.Common.{◌≡◌, ℕ, ◌+◌, ◌<◌, ◌≤◌, min, List, ◌∷◌, length, get_or, drop, ap, sym, ◌∙◌, add-one, arith, drop-cons}
+use Rattle.std.proofs.Common.{◌≡◌, ℕ, ◌+◌, ◌<◌, ◌≤◌, min, List, length, get_or, drop, ap, arith}
 use Rattle.std.proofs.lemmas.List.{drop_all}
 use Rattle.mm_tree.specs.declared.node.Node.{Node}
 use Rattle.mm_tree.specs.declared.node.Node.TheViews.{out-Node}
-use Rattle.mm_tree.specs.Trees.{Tree, nodes}
-use Rattle.mm_tree.specs.Numbering.{Labelled, forest_of}
-use Rattle.mm_tree.proofs.PlaceFacts.{node_of_out}
-
-next_is : (xs : List Node) (i : ℕ) (x : Node) → i < length xs → x ≡ get_or xs i x → drop i xs ≡ x ∷ drop (i + 1) xs
-next_is xs i x h e = drop-cons xs i x h ∙ (λ j. sym e j ∷ drop (sym (add-one i) j) xs)
+use Rattle.mm_tree.specs.Trees.{nodes}
+use Rattle.mm_tree.specs.Numbering.{forest_of}
+use Rattle.mm_tree.specs.Facts.Walks.{forest_at}
 
 nodes_next : (xs : List Node) (i : ℕ) (x : Node) → i < length xs → x ≡ get_or xs i x
     → nodes (forest_of (drop i xs)) ≡ 1 + nodes (forest_of (out-Node x).children) + nodes (forest_of (drop (i + 1) xs))
-nodes_next xs i x h e =
-    ap (λ (zs : List Node). nodes (forest_of zs)) (next_is xs i x h e) ∙ ap (λ (t : Tree Labelled). 1 + nodes t.1 + nodes (forest_of (drop (i + 1) xs))) (node_of_out x)
+nodes_next xs i x h e = ap nodes (forest_at xs i x h e)
 
 abbrev limit : ℕ
 limit = 18446744073709551615

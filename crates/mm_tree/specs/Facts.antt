@@ -6,3 +6,6 @@ pub mod Nodes
 pub mod Runs
 pub mod Rebuild
 pub mod Full
+pub mod Walks
+pub mod Labels
+pub mod Words

@@ -1,5 +1,5 @@
 -- Words, each once, where it comes first.
-use Rattle.std.proofs.Common.{◌≡◌, ℕ, Bool, true, false, cond, not, ◌&&◌, ◌||◌, List, [], ◌∷◌, ◌++◌, ap, ap₂, sym, refl, ◌∙◌, filter, bytes_eq, append_assoc, drop, drop-cons, add-one, ◌+◌, ◌<◌, length, get_or, nat_cmp}
+use Rattle.std.proofs.Common.{◌≡◌, ℕ, Bool, true, false, cond, not, ◌&&◌, ◌||◌, List, [], ◌∷◌, ◌++◌, ap, ap₂, sym, refl, ◌∙◌, filter, bytes_eq, append_assoc, drop, ◌+◌, ◌<◌, length, get_or, nat_cmp}
 use Rattle.std.specs.Borrow.{Bor}
 use Rattle.std.specs.BTreeSet.{BTreeSet, contains_by, Updates, IsUnchanged, IsEmpty}
 use Rattle.std.specs.BTreeMap.{is_at}
@@ -9,6 +9,7 @@ use Rattle.std.proofs.lemmas.Map.Text.{is_eq-slice_cmp}
 use Rattle.std.proofs.lemmas.Cmp.{nat_list_eq_equiv}
 use Rattle.std.proofs.lemmas.Slice.Eq.{bytes_eq-Decides}
 use Rattle.std.proofs.lemmas.List.Folds.{list_any-append}
+use Rattle.mm_list.specs.Facts.{drop_at}
 use Rattle.mm_words.specs.Words.{without, first_occurrences}
 
 -- those of these words that are not among the first
@@ -84,15 +85,12 @@ more_words old new key found u h w =
 pub same_words : (old new : BTreeSet (Bor (List ℕ))) (found : List (List ℕ)) → IsUnchanged old new → HasWords old found → HasWords new found
 same_words old new found u h w = ap (λ ks. list_any (is_at (λ k. slice_cmp nat_cmp w k.now)) ks) u ∙ h w
 
-here : (words : List (List ℕ)) (i : ℕ) (word : List ℕ) → i < length words → word ≡ get_or words i word → drop i words ≡ word ∷ drop (i + 1) words
-here words i word h e = drop-cons words i word h ∙ ap₂ (λ v n. v ∷ drop n words) (sym e) (sym (add-one i))
-
 pub old_found : (words found : List (List ℕ)) (i : ℕ) (word : List ℕ) → i < length words → word ≡ get_or words i word → list_any (bytes_eq word) found ≡ true
     → found ++ unseen found (first_occurrences (drop i words)) ≡ first_occurrences words → found ++ unseen found (first_occurrences (drop (i + 1) words)) ≡ first_occurrences words
 old_found words found i word h e old rest =
-    ap (λ vs. found ++ vs) (sym (old_word word found (drop (i + 1) words) old)) ∙ ap (λ vs. found ++ unseen found (first_occurrences vs)) (sym (here words i word h e)) ∙ rest
+    ap (λ vs. found ++ vs) (sym (old_word word found (drop (i + 1) words) old)) ∙ ap (λ vs. found ++ unseen found (first_occurrences vs)) (sym (drop_at words i word h e)) ∙ rest
 
 pub new_found : (words found : List (List ℕ)) (i : ℕ) (word : List ℕ) → i < length words → word ≡ get_or words i word → list_any (bytes_eq word) found ≡ false
     → found ++ unseen found (first_occurrences (drop i words)) ≡ first_occurrences words → (found ++ word ∷ []) ++ unseen (found ++ word ∷ []) (first_occurrences (drop (i + 1) words)) ≡ first_occurrences words
 new_found words found i word h e new rest =
-    sym (new_word word found (drop (i + 1) words) new) ∙ ap (λ vs. found ++ unseen found (first_occurrences vs)) (sym (here words i word h e)) ∙ rest
+    sym (new_word word found (drop (i + 1) words) new) ∙ ap (λ vs. found ++ unseen found (first_occurrences vs)) (sym (drop_at words i word h e)) ∙ rest

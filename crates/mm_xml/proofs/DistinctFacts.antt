@@ -1,5 +1,5 @@
 -- Names in a map are the names that were seen.
-use Rattle.std.proofs.Common.{◌≡◌, refl, sym, ap, ◌∙◌, ℕ, ◌+◌, ◌<◌, Bool, true, false, cond, ◌&&◌, ◌||◌, not, List, [], ◌∷◌, length, get_or, drop, drop-cons, add-one, Option, Some, BTreeMap, nat_cmp}
+use Rattle.std.proofs.Common.{◌≡◌, refl, sym, ap, ◌∙◌, ℕ, ◌+◌, ◌<◌, Bool, true, false, cond, ◌&&◌, ◌||◌, not, List, [], ◌∷◌, length, get_or, drop, Option, Some, BTreeMap, nat_cmp}
 use Rattle.std.specs.Prelude.{map, is_some}
 use Rattle.std.specs.List.{list_any}
 use Rattle.std.specs.Str.{bytes_eq}
@@ -7,6 +7,7 @@ use Rattle.std.specs.Borrow.{Bor}
 use Rattle.std.specs.Cmp.Lexicographic.{slice_cmp}
 use Rattle.std.specs.BTreeMap.{get_by, UpdatesBy}
 use Rattle.std.proofs.lemmas.Map.Text.{btree_map_updates_str}
+use Rattle.mm_list.specs.Facts.{drop_at}
 use Rattle.mm_tree.specs.declared.Attribute.{Attribute}
 use Rattle.mm_xml.specs.Inside.Distinct.{differ_from}
 use Rattle.mm_xml.specs.Syntax.{differ}
@@ -31,15 +32,12 @@ holds_more n names m m' u h q =
     ∙ added (bytes_eq n q) (found m q)
     ∙ (λ j. flip n q j || h q j)
 
-here : (attributes : List Attribute) (i : ℕ) (a : Attribute) → i < length attributes → a ≡ get_or attributes i a → drop i attributes ≡ a ∷ drop (i + 1) attributes
-here attributes i a lt e = drop-cons attributes i a lt ∙ (λ j. sym e j ∷ drop (sym (add-one i) j) attributes)
-
 abbrev pub left : List (List ℕ) → List Attribute → Bool
 left names attributes = differ_from names (map (λ a. a.name) attributes)
 
 next_left : (names : List (List ℕ)) (attributes : List Attribute) (i : ℕ) (a : Attribute) → i < length attributes → a ≡ get_or attributes i a
     → left names (drop i attributes) ≡ (not (list_any (λ n. bytes_eq a.name n) names) && left (a.name ∷ names) (drop (i + 1) attributes))
-next_left names attributes i a lt e = ap (λ (xs : List Attribute). left names xs) (here attributes i a lt e)
+next_left names attributes i a lt e = ap (λ (xs : List Attribute). left names xs) (drop_at attributes i a lt e)
 
 -- a name that wasn't seen
 pub goes_on : (names : List (List ℕ)) (attributes : List Attribute) (i : ℕ) (a : Attribute) (b : Bool) → i < length attributes → a ≡ get_or attributes i a → list_any (λ n. bytes_eq a.name n) names ≡ b → b ≡ false

@@ -4,6 +4,7 @@ use Rattle.std.specs.Prelude.{nat_lt, refl}
 use Rattle.std.specs.Str.{bytes_eq}
 use Rattle.std.proofs.lemmas.Bool.Decides.{nat_tests}
 use Rattle.mm_keeper.specs.Entries.{Entries, below, rank, has, put, index_of, within, one_before, first_from, last_to, weight_of}
+use Rattle.mm_keeper.specs.Facts.Keys.{rank_at_most}
 
 rank_in_range : (m : Entries) (k : List ℕ) → has m k ≡ true → rank m k < length m
 rank_in_range [] k h = absurd cc
@@ -12,14 +13,6 @@ rank_in_range (e ∷ m) k h = by (below e.0 k) h (rank_in_range m k)
     by : (b : Bool) → cond b (has m k) (bytes_eq e.0 k) ≡ true → (has m k ≡ true → rank m k < length m) → cond b (suc (rank m k)) 0 < suc (length m)
     by true h i = let l = i h in omega arith
     by false h i = omega arith
-
-rank_at_most : (m : Entries) (k : List ℕ) → rank m k ≤ length m
-rank_at_most [] k = omega arith
-rank_at_most (e ∷ m) k = by (below e.0 k) (rank_at_most m k)
-  where
-    by : (b : Bool) → rank m k ≤ length m → cond b (suc (rank m k)) 0 ≤ suc (length m)
-    by true i = omega arith
-    by false i = omega arith
 
 pub next_in_range : (m : Entries) (n i : ℕ) → Some i ≡ within m n → i < length m
 next_in_range m n i e = by (nat_lt n (length m)) refl e
@@ -49,7 +42,7 @@ pub last_in_range : (m : Entries) (k : List ℕ) (i : ℕ) → Some i ≡ last_t
 last_in_range m k i e = by (has m k) refl e
   where
     under : (b : Bool) → nat_lt 0 (rank m k) ≡ b → Some i ≡ cond b (Some (rank m k - 1)) None → i < length m
-    under true q e = let l = rank_at_most m k in grind (arith, nat_tests)
+    under true q e = let l = rank_at_most k m in grind (arith, nat_tests)
     under false q e = absurd cc
 
     by : (b : Bool) → has m k ≡ b → Some i ≡ cond b (Some (rank m k)) (one_before (rank m k)) → i < length m

@@ -1,6 +1,6 @@
 -- Members of lists.
-use Rattle.std.proofs.Common.{inl, inr, ◌≡◌, ◌⊎◌, Bool, true, false, ◌||◌, ℕ, zero, suc, ◌<◌, List, [], ◌∷◌, ◌++◌, map, refl, ap, sym, ◌∙◌, length, arith}
-use Rattle.std.specs.Prelude.{slice_index_or}
+use Rattle.std.proofs.Common.{inl, inr, ◌≡◌, ◌⊎◌, Bool, true, false, ◌||◌, ℕ, zero, suc, ◌<◌, List, [], ◌∷◌, ◌++◌, map, cond, refl, ap, sym, subst, ◌∙◌, length, arith}
+use Rattle.std.specs.Prelude.{slice_index_or, flat_map, filter}
 use Rattle.std.specs.List.{Contains, list_any}
 use Rattle.std.proofs.lemmas.Bool.{or_right}
 use Rattle.mm_label.specs.Fronts.{Within}
@@ -44,6 +44,30 @@ within_in at x (m ∷ ms) w = elim w [ inl e ↦ (m, inl refl, e) | inr k ↦ le
 pub in_within : {A B : Type 0} (at : A → B) (p : A) (xs : List A) → Within p xs → Within (at p) (map at xs)
 in_within at p [] w = absurd w
 in_within at p (m ∷ ms) w = elim w [ inl e ↦ inl (ap at e) | inr k ↦ inr (in_within at p ms k) ]
+
+-- ---- of lists one after the other, and of those that pass a test
+
+pub within_flat : {A B : Type 0} (f : A → List B) (y : B) (xs : List A) → Within y (flat_map f xs) → (x : A) × Within x xs × Within y (f x)
+within_flat f y [] w = absurd w
+within_flat f y (x ∷ xs) w = elim (within_joined y (f x) (flat_map f xs) w) [
+  | inl k ↦ (x, inl refl, k)
+  | inr k ↦ let t = within_flat f y xs k in (t.0, inr t.1, t.2)
+]
+
+pub flat_within : {A B : Type 0} (f : A → List B) (x : A) (y : B) (xs : List A) → Within x xs → Within y (f x) → Within y (flat_map f xs)
+flat_within f x y [] w k = absurd w
+flat_within f x y (a ∷ xs) w k = elim w [
+  | inl e ↦ within_first y (f a) (flat_map f xs) (subst (λ z. Within y (f z)) e k)
+  | inr q ↦ within_second y (f a) (flat_map f xs) (flat_within f x y xs q k)
+]
+
+pub within_filter : {A : Type 0} (p : A → Bool) (x : A) (xs : List A) → Within x (filter p xs) → p x ≡ true
+within_filter p x [] w = absurd w
+within_filter {A} p x (a ∷ xs) w = by (p a) refl w (within_filter p x xs)
+  where
+    by : (b : Bool) → p a ≡ b → Within x (cond b (a ∷ filter p xs) (filter p xs)) → (Within x (filter p xs) → p x ≡ true) → p x ≡ true
+    by true e w f = elim w [ inl q ↦ subst (λ (z : A). p z ≡ true) (sym q) e | inr q ↦ f q ]
+    by false e w f = f w
 
 -- ---- tests of members
 

@@ -1,4 +1,3 @@
-use Rattle.std.proofs.Common.{◌∙◌}
 use Rattle.mm_command.proofs.FragmentFacts.{lines_on, lines_end}
 use Rattle.mm_command.proofs.fragments.+push_nodes.Goals as goal
 

@@ -1,6 +1,6 @@
 use Rattle.std.proofs.Common.{◌<◌, ◌≤◌, length, get_or, sym, ap, ◌∙◌, subst, le-ltb}
 use Rattle.std.specs.Str.{bytes_eq}
-use Rattle.mm_keeper.proofs.Keys.{has-in, has-out}
+use Rattle.mm_keeper.specs.Facts.Keys.{has-in, has-out}
 use Rattle.mm_keeper.proofs.block.holds.Goals as goal
 
 pub returns-then-at-items-clause-has : goal.returns-then-at-items-clause-has

@@ -3,7 +3,7 @@ use Rattle.std.specs.Prelude.{slice_set}
 use Rattle.std.specs.List.{insert}
 use Rattle.mm_keeper.specs.Entries.{rank, has}
 use Rattle.std.proofs.lemmas.Slice.Eq.{bytes_eq-Decides}
-use Rattle.mm_keeper.proofs.Keys.{put-at, lookup-at, has-in}
+use Rattle.mm_keeper.specs.Facts.Keys.{put-at, lookup-at, has-in}
 use Rattle.mm_keeper.proofs.block.place_in.Goals as goal
 
 pub returns-then-holds-clause-ok : goal.returns-then-holds-clause-ok

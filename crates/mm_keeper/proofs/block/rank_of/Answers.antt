@@ -1,7 +1,7 @@
 use Rattle.std.proofs.Common.{rules}
 use Rattle.std.proofs.lemmas.List.Sorted.{IsPartitionPoint-from_clause}
 use Rattle.mm_keeper.specs.Entries.{below}
-use Rattle.mm_keeper.proofs.Blocked.{rank_is, items_parted}
+use Rattle.mm_keeper.specs.Facts.Blocked.{rank_is, items_parted}
 use Rattle.mm_keeper.proofs.block.rank_of.Goals as goal
 
 pub returns-clause-rank : goal.returns-clause-rank

@@ -1,7 +1,7 @@
 use Rattle.std.proofs.Common.{rules}
 use Rattle.std.proofs.lemmas.List.Sorted.{IsPartitionPoint-from_clause}
 use Rattle.mm_keeper.specs.Inside.Finding.{ends_below}
-use Rattle.mm_keeper.proofs.Blocked.{at_point, blocks_parted}
+use Rattle.mm_keeper.specs.Facts.Blocked.{at_point, blocks_parted}
 use Rattle.mm_keeper.proofs.sorted_map.block_of.Goals as goal
 
 pub returns-clause-at : goal.returns-clause-at

@@ -1,7 +1,7 @@
 use Rattle.std.proofs.Common.{◌≡◌, length, get_or, [], ap, ◌∙◌, arith}
 use Rattle.mm_keeper.specs.Blocks.{joined}
-use Rattle.mm_keeper.proofs.Blocked.{get-any}
-use Rattle.mm_keeper.proofs.Changing.{remove-joined, some-all}
+use Rattle.mm_keeper.specs.Facts.Blocked.{get-any}
+use Rattle.mm_keeper.specs.Facts.Changing.{remove-joined, some-all}
 use Rattle.mm_keeper.proofs.sorted_map.drop_empty.Goals as goal
 
 pub returns-then-len-eq0-clause-same : goal.returns-then-len-eq0-clause-same

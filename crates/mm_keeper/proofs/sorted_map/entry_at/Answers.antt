@@ -1,5 +1,5 @@
 use Rattle.std.proofs.Common.{◌≡◌, ◌<◌, length, get_or, [], Some, sym, ap, ap₂, ◌∙◌, subst}
-use Rattle.mm_keeper.proofs.Blocked.{get-any, entry-at}
+use Rattle.mm_keeper.specs.Facts.Blocked.{get-any, entry-at}
 use Rattle.mm_keeper.proofs.sorted_map.entry_at.Goals as goal
 
 pub bounds-items-spot : goal.bounds-items-spot

@@ -1,6 +1,6 @@
 use Rattle.std.proofs.Common.{sym, ◌∙◌}
 use Rattle.mm_keeper.specs.Blocks.{joined}
-use Rattle.mm_keeper.proofs.Spots.{spot-rank, last-some, last-before, spot-index}
+use Rattle.mm_keeper.specs.Facts.Spots.{spot-rank, last-some, last-before, spot-index}
 use Rattle.mm_keeper.proofs.sorted_map.find_down.Goals as goal
 
 pub returns-then-found : goal.returns-then-found

@@ -1,5 +1,5 @@
 use Rattle.std.proofs.Common.{arith}
-use Rattle.mm_keeper.proofs.Spots.{up-in, up-none}
+use Rattle.mm_keeper.specs.Facts.Spots.{up-in, up-none}
 use Rattle.mm_keeper.proofs.sorted_map.find_up.Goals as goal
 
 pub returns-then-spot-blocks : goal.returns-then-spot-blocks

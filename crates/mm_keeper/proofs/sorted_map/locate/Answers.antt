@@ -1,6 +1,6 @@
 use Rattle.std.proofs.Common.{◌<◌, length, [], sym, ap, ◌∙◌, subst, arith}
 use Rattle.mm_keeper.specs.Entries.{Rises, has}
-use Rattle.mm_keeper.proofs.Blocked.{has-end, has-at, rises_at, get-any}
+use Rattle.mm_keeper.specs.Facts.Blocked.{has-end, has-at, rises_at, get-any}
 use Rattle.mm_keeper.proofs.sorted_map.locate.Goals as goal
 
 pub returns-then-block-blocks-clause-has : goal.returns-then-block-blocks-clause-has

@@ -3,8 +3,8 @@ use Rattle.std.specs.Prelude.{slice_set}
 use Rattle.mm_keeper.specs.Entries.{put, IsBelow, Rises, lookup}
 use Rattle.mm_keeper.specs.Blocks.{joined}
 use Rattle.mm_keeper.specs.Inside.Finding.{AllBelow}
-use Rattle.mm_keeper.proofs.Blocked.{get-any, some_at, rises_at}
-use Rattle.mm_keeper.proofs.Changing.{put-joined, lookup-joined, set-same, some-set, put-some}
+use Rattle.mm_keeper.specs.Facts.Blocked.{get-any, some_at, rises_at}
+use Rattle.mm_keeper.specs.Facts.Changing.{put-joined, lookup-joined, set-same, some-set, put-some}
 use Rattle.mm_keeper.proofs.sorted_map.put_in.Goals as goal
 
 pub place_in-requires : goal.place_in-requires

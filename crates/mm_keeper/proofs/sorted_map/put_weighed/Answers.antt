@@ -1,8 +1,8 @@
 use Rattle.std.proofs.Common.{◌≡◌, ◌<◌, ◌+◌, ◌-◌, ◌^◌, ℕ, List, length, Some, None, sym, ap, ap₂, ◌∙◌, subst, arith, option_map}
 use Rattle.mm_keeper.specs.Entries.{put, Rises, lookup, weight_of}
 use Rattle.mm_keeper.specs.Blocks.{joined}
-use Rattle.mm_keeper.proofs.Keys.{Rises-put}
-use Rattle.mm_keeper.proofs.Changing.{weigh-held, weigh-new}
+use Rattle.mm_keeper.specs.Facts.Keys.{Rises-put}
+use Rattle.mm_keeper.specs.Facts.Changing.{weigh-held, weigh-new}
 use Rattle.mm_keeper.proofs.sorted_map.put_weighed.Goals as goal
 
 pub overflow_sub-weight : goal.overflow_sub-weight

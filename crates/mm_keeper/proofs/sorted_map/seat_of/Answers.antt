@@ -1,5 +1,5 @@
 use Rattle.std.proofs.Common.{arith}
-use Rattle.mm_keeper.proofs.Blocked.{last_seat}
+use Rattle.mm_keeper.specs.Facts.Blocked.{last_seat}
 use Rattle.mm_keeper.proofs.sorted_map.seat_of.Goals as goal
 
 pub returns-then-at-blocks-clause-front : goal.returns-then-at-blocks-clause-front

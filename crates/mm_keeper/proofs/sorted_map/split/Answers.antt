@@ -1,7 +1,7 @@
 use Rattle.std.proofs.Common.{◌≡◌, ◌<◌, ◌+◌, length, get_or, [], sym, ap, ◌∙◌, subst, arith}
 use Rattle.mm_keeper.specs.Blocks.{joined, AllSome}
-use Rattle.mm_keeper.proofs.Blocked.{get-any}
-use Rattle.mm_keeper.proofs.Changing.{insert-joined, insert-some, some-set}
+use Rattle.mm_keeper.specs.Facts.Blocked.{get-any}
+use Rattle.mm_keeper.specs.Facts.Changing.{insert-joined, insert-some, some-set}
 use Rattle.mm_keeper.proofs.sorted_map.split.Goals as goal
 
 pub returns-clause-same : goal.returns-clause-same

@@ -1,6 +1,6 @@
 use Rattle.std.proofs.Common.{◌≡◌, ◌+◌, length, get_or, [], ap, ◌∙◌, arith}
-use Rattle.mm_keeper.proofs.Blocked.{get-any}
-use Rattle.mm_keeper.proofs.Spots.{after-inside, after-block, after-none}
+use Rattle.mm_keeper.specs.Facts.Blocked.{get-any}
+use Rattle.mm_keeper.specs.Facts.Spots.{after-inside, after-block, after-none}
 use Rattle.mm_keeper.proofs.sorted_map.spot_after.Goals as goal
 
 pub returns-then-index-count : goal.returns-then-index-count

@@ -1,8 +1,8 @@
 use Rattle.std.proofs.Common.{◌≡◌, ◌<◌, ◌-◌, length, get_or, [], Some, sym, ap, ◌∙◌, arith}
 use Rattle.mm_keeper.specs.Entries.{one_before}
 use Rattle.mm_keeper.specs.Blocks.{place_in}
-use Rattle.mm_keeper.proofs.Blocked.{get-any, some_at}
-use Rattle.mm_keeper.proofs.Spots.{before-inside, before-first, before-block}
+use Rattle.mm_keeper.specs.Facts.Blocked.{get-any, some_at}
+use Rattle.mm_keeper.specs.Facts.Spots.{before-inside, before-first, before-block}
 use Rattle.mm_keeper.proofs.sorted_map.spot_before.Goals as goal
 
 pub returns-then-index-gt0 : goal.returns-then-index-gt0

@@ -4,9 +4,9 @@ use Rattle.std.specs.List.{remove}
 use Rattle.mm_keeper.specs.Entries.{has, without, rank}
 use Rattle.mm_keeper.specs.Blocks.{joined}
 use Rattle.mm_keeper.specs.Inside.Finding.{IsAt}
-use Rattle.mm_keeper.proofs.Keys.{without-at, lookup-at}
-use Rattle.mm_keeper.proofs.Blocked.{get-any, has-at}
-use Rattle.mm_keeper.proofs.Changing.{some-without, without-joined, lookup-joined, taken}
+use Rattle.mm_keeper.specs.Facts.Keys.{without-at, lookup-at}
+use Rattle.mm_keeper.specs.Facts.Blocked.{get-any, has-at}
+use Rattle.mm_keeper.specs.Facts.Changing.{some-without, without-joined, lookup-joined, taken}
 use Rattle.mm_keeper.proofs.sorted_map.take_out.Goals as goal
 
 pub drop_empty-requires-clause-some : goal.drop_empty-requires-clause-some

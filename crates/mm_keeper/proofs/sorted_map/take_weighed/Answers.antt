@@ -1,8 +1,8 @@
 use Rattle.std.proofs.Common.{◌≡◌, ◌-◌, length, sym, ap, ◌∙◌, subst, arith}
 use Rattle.mm_keeper.specs.Entries.{without, Rises, lookup, weight_of}
 use Rattle.mm_keeper.specs.Blocks.{joined}
-use Rattle.mm_keeper.proofs.Keys.{Rises-without}
-use Rattle.mm_keeper.proofs.Changing.{of-some, of-none, weight-without, without-none}
+use Rattle.mm_keeper.specs.Facts.Keys.{Rises-without}
+use Rattle.mm_keeper.specs.Facts.Changing.{of-some, of-none, weight-without, without-none}
 use Rattle.mm_keeper.proofs.sorted_map.take_weighed.Goals as goal
 
 pub overflow_sub-weight : goal.overflow_sub-weight

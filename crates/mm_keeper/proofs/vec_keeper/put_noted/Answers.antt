@@ -2,8 +2,8 @@ use Rattle.std.proofs.Common.{◌≡◌, ◌++◌, ◌∷◌, [], sym, ap₂, �
 use Rattle.mm_keeper.specs.Entries.{Rises, lookup}
 use Rattle.mm_keeper.specs.Blocks.{joined}
 use Rattle.mm_keeper.specs.Inside.Olds.{before_all}
-use Rattle.mm_keeper.proofs.Keys.{Rises-put}
-use Rattle.mm_keeper.proofs.Olds.{noted-put}
+use Rattle.mm_keeper.specs.Facts.Keys.{Rises-put}
+use Rattle.mm_keeper.specs.Facts.Olds.{noted-put}
 use Rattle.mm_keeper.proofs.vec_keeper.put_noted.Goals as goal
 
 pub returns-in-Ok-clause-sorted : goal.returns-in-Ok-clause-sorted

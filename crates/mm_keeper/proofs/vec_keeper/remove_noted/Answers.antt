@@ -2,9 +2,9 @@ use Rattle.std.proofs.Common.{◌≡◌, ◌++◌, ◌∷◌, [], sym, ap₂, �
 use Rattle.mm_keeper.specs.Entries.{Rises, lookup}
 use Rattle.mm_keeper.specs.Blocks.{joined}
 use Rattle.mm_keeper.specs.Inside.Olds.{before_all}
-use Rattle.mm_keeper.proofs.Keys.{Rises-without, has-some, has-none}
-use Rattle.mm_keeper.proofs.Changing.{of-some, of-none, without-none}
-use Rattle.mm_keeper.proofs.Olds.{noted-without}
+use Rattle.mm_keeper.specs.Facts.Keys.{Rises-without, has-some, has-none}
+use Rattle.mm_keeper.specs.Facts.Changing.{of-some, of-none, without-none}
+use Rattle.mm_keeper.specs.Facts.Olds.{noted-without}
 use Rattle.mm_keeper.proofs.vec_keeper.remove_noted.Goals as goal
 
 pub returns-in-Some-clause-told : goal.returns-in-Some-clause-told

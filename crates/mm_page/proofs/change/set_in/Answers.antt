@@ -1,12 +1,32 @@
-use Rattle.std.proofs.Common.{◌≡◌, ◌+◌, ◌-◌, suc, length, ap, ◌∙◌, arith}
+use Rattle.std.proofs.Common.{◌≡◌, ◌+◌, suc, ap, ◌∙◌, arith}
 use Rattle.mm_page.specs.Limits.{revalued}
 use Rattle.mm_page.specs.Leaf.{entries_of, place_in}
 use Rattle.mm_page.proofs.Rows.{leaf-count, leaf-entry}
-use Rattle.mm_page.proofs.Writing.{row-there, row-read}
-use Rattle.mm_page.proofs.Moves.{move-length}
-use Rattle.mm_page.proofs.Blocks.{put-length}
-use Rattle.mm_page.proofs.Setting.{setting, set-done, revalued-length}
+use Rattle.mm_page.proofs.Moves.{IsMoved}
+use Rattle.mm_page.proofs.Setting.{IsSetting, setting, set-done}
+use Rattle.mm_page.proofs.change.set_in.Goals.{After-read_two-key, After-write_part}
 use Rattle.mm_page.proofs.change.set_in.Goals as goal
+
+room : (c : After-read_two-key) → IsSetting c.args.bytes.now c.args.value.now c.args.index c.read_two-count.result c.place-at.result c.place-after.result c.place-end.result c.read_two-key.result
+room c =
+    let old = c.args.bytes.now in
+    let n = c.read_two-count.ensures.number ∙ leaf-count old c.requires.leaf in
+    let e = c.place-end.ensures ∙ ap (λ t. place_in (entries_of old) t) n in
+    let j : c.args.index + 1 ≡ suc c.args.index = omega arith in
+    let t : c.place-after.result ≡ place_in (entries_of old) (suc c.args.index) = c.place-after.ensures ∙ ap (λ x. place_in (entries_of old) x) j in
+    setting old c.args.value.now c.args.index c.read_two-count.result c.place-at.result c.place-after.result c.place-end.result c.read_two-key.result c.requires.leaf n c.requires.index c.place-at.ensures t e c.read_two-key.ensures.number c.requires.room
+
+done : (c : After-write_part) → IsMoved c.args.bytes.now c.write_part.new.bytes c.read_two-count.result (revalued (entries_of c.args.bytes.now) c.args.index c.args.value.now)
+done c =
+    let old = c.args.bytes.now in
+    let n = c.read_two-count.ensures.number ∙ leaf-count old c.requires.leaf in
+    let e = c.place-end.ensures ∙ ap (λ t. place_in (entries_of old) t) n in
+    let j : c.args.index + 1 ≡ suc c.args.index = omega arith in
+    let t : c.place-after.result ≡ place_in (entries_of old) (suc c.args.index) = c.place-after.ensures ∙ ap (λ x. place_in (entries_of old) x) j in
+    let w =
+    setting old c.args.value.now c.args.index c.read_two-count.result c.place-at.result c.place-after.result c.place-end.result c.read_two-key.result c.requires.leaf n c.requires.index c.place-at.ensures t e c.read_two-key.ensures.number c.requires.room in
+    set-done old c.args.value.now c.args.index c.read_two-count.result c.place-at.result c.place-after.result c.place-end.result c.read_two-key.result _ _ _ c.requires.leaf n c.requires.index c.place-at.ensures t c.requires.value c.requires.room w
+    c.move_part.ensures.bytes c.write_two.ensures.bytes c.write_part.ensures.bytes
 
 pub read_two-key-requires : goal.read_two-key-requires
 read_two-key-requires c =
@@ -14,101 +34,25 @@ read_two-key-requires c =
     omega (arith, c.place-at.ensures, e.room, c.requires.leaf.size)
 
 pub overflow_sub-end : goal.overflow_sub-end
-overflow_sub-end c =
-    let old = c.args.bytes.now in
-    let m = entries_of old in
-    let n = c.read_two-count.ensures.number ∙ leaf-count old c.requires.leaf in
-    let e = c.place-end.ensures ∙ ap (λ t. place_in m t) n in
-    let j : c.args.index + 1 ≡ suc c.args.index = omega arith in
-    let t : c.place-after.result ≡ place_in m (suc c.args.index) = c.place-after.ensures ∙ ap (λ x. place_in m x) j in
-    let w = setting old c.args.value.now c.args.index c.read_two-count.result c.place-at.result c.place-after.result c.place-end.result c.read_two-key.result c.requires.leaf n c.requires.index c.place-at.ensures t e c.read_two-key.ensures.number c.requires.room in
-    omega (arith, w.start, w.order, w.last, w.all, w.room, c.requires.leaf.size)
+overflow_sub-end c = let w = room (goal.at.overflow_sub-end c).After-read_two-key in omega (arith, w.start, w.order, w.last, w.all, w.room, w.size)
 
 pub move_part-requires-clause-from : goal.move_part-requires-clause-from
-move_part-requires-clause-from c =
-    let old = c.args.bytes.now in
-    let m = entries_of old in
-    let n = c.read_two-count.ensures.number ∙ leaf-count old c.requires.leaf in
-    let e = c.place-end.ensures ∙ ap (λ t. place_in m t) n in
-    let j : c.args.index + 1 ≡ suc c.args.index = omega arith in
-    let t : c.place-after.result ≡ place_in m (suc c.args.index) = c.place-after.ensures ∙ ap (λ x. place_in m x) j in
-    let w = setting old c.args.value.now c.args.index c.read_two-count.result c.place-at.result c.place-after.result c.place-end.result c.read_two-key.result c.requires.leaf n c.requires.index c.place-at.ensures t e c.read_two-key.ensures.number c.requires.room in
-    omega (arith, w.start, w.order, w.last, w.all, w.room, c.requires.leaf.size)
+move_part-requires-clause-from c = let w = room (goal.at.move_part-requires-clause-from c).After-read_two-key in omega (arith, w.start, w.order, w.last, w.all, w.room, w.size)
 
 pub move_part-requires-clause-to : goal.move_part-requires-clause-to
-move_part-requires-clause-to c =
-    let old = c.args.bytes.now in
-    let m = entries_of old in
-    let n = c.read_two-count.ensures.number ∙ leaf-count old c.requires.leaf in
-    let e = c.place-end.ensures ∙ ap (λ t. place_in m t) n in
-    let j : c.args.index + 1 ≡ suc c.args.index = omega arith in
-    let t : c.place-after.result ≡ place_in m (suc c.args.index) = c.place-after.ensures ∙ ap (λ x. place_in m x) j in
-    let w = setting old c.args.value.now c.args.index c.read_two-count.result c.place-at.result c.place-after.result c.place-end.result c.read_two-key.result c.requires.leaf n c.requires.index c.place-at.ensures t e c.read_two-key.ensures.number c.requires.room in
-    omega (arith, w.start, w.order, w.last, w.all, w.room, c.requires.leaf.size)
+move_part-requires-clause-to c = let w = room (goal.at.move_part-requires-clause-to c).After-read_two-key in omega (arith, w.start, w.order, w.last, w.all, w.room, w.size)
 
 pub write_two-requires-clause-room : goal.write_two-requires-clause-room
-write_two-requires-clause-room c =
-    let old = c.args.bytes.now in
-    let m = entries_of old in
-    let n = c.read_two-count.ensures.number ∙ leaf-count old c.requires.leaf in
-    let e = c.place-end.ensures ∙ ap (λ t. place_in m t) n in
-    let j : c.args.index + 1 ≡ suc c.args.index = omega arith in
-    let t : c.place-after.result ≡ place_in m (suc c.args.index) = c.place-after.ensures ∙ ap (λ x. place_in m x) j in
-    let w = setting old c.args.value.now c.args.index c.read_two-count.result c.place-at.result c.place-after.result c.place-end.result c.read_two-key.result c.requires.leaf n c.requires.index c.place-at.ensures t e c.read_two-key.ensures.number c.requires.room in
-    let l1 = move-length old c.place-after.result (c.place-end.result - c.place-after.result) ((c.place-at.result + 4 + c.read_two-key.result) + length c.args.value.now) c.move_part.ensures (omega (arith, w.last, w.all, c.requires.leaf.size)) (omega (arith, w.room, c.requires.leaf.size)) in
-    omega (arith, l1, w.start, w.order, w.last, w.all, w.room, c.requires.leaf.size)
+write_two-requires-clause-room c = let w = room (goal.at.write_two-requires-clause-room c).After-read_two-key in omega (arith, w.start, w.order, w.last, w.all, w.room, w.size, c.move_part.ensures.length)
 
 pub write_part-requires : goal.write_part-requires
-write_part-requires c =
-    let old = c.args.bytes.now in
-    let m = entries_of old in
-    let n = c.read_two-count.ensures.number ∙ leaf-count old c.requires.leaf in
-    let e = c.place-end.ensures ∙ ap (λ t. place_in m t) n in
-    let j : c.args.index + 1 ≡ suc c.args.index = omega arith in
-    let t : c.place-after.result ≡ place_in m (suc c.args.index) = c.place-after.ensures ∙ ap (λ x. place_in m x) j in
-    let w = setting old c.args.value.now c.args.index c.read_two-count.result c.place-at.result c.place-after.result c.place-end.result c.read_two-key.result c.requires.leaf n c.requires.index c.place-at.ensures t e c.read_two-key.ensures.number c.requires.room in
-    let l1 = move-length old c.place-after.result (c.place-end.result - c.place-after.result) ((c.place-at.result + 4 + c.read_two-key.result) + length c.args.value.now) c.move_part.ensures (omega (arith, w.last, w.all, c.requires.leaf.size)) (omega (arith, w.room, c.requires.leaf.size)) in
-    let l2 = put-length c.move_part.new.bytes (c.place-at.result + 2) (Rattle.mm_page.specs.Leaf.two (length c.args.value.now)) c.write_two.ensures (omega (arith, l1, w.start, w.order, w.last, w.all, c.requires.leaf.size)) in
-    omega (arith, l1, l2, w.start, w.order, w.last, w.all, w.room, c.requires.leaf.size)
+write_part-requires c = let w = room (goal.at.write_part-requires c).After-read_two-key in omega (arith, w.start, w.order, w.last, w.all, w.room, w.size, c.move_part.ensures.length, c.write_two.ensures.length)
 
 pub finish-requires : goal.finish-requires
-finish-requires c =
-    let old = c.args.bytes.now in
-    let m = entries_of old in
-    let n = c.read_two-count.ensures.number ∙ leaf-count old c.requires.leaf in
-    let e = c.place-end.ensures ∙ ap (λ t. place_in m t) n in
-    let j : c.args.index + 1 ≡ suc c.args.index = omega arith in
-    let t : c.place-after.result ≡ place_in m (suc c.args.index) = c.place-after.ensures ∙ ap (λ x. place_in m x) j in
-    let w = setting old c.args.value.now c.args.index c.read_two-count.result c.place-at.result c.place-after.result c.place-end.result c.read_two-key.result c.requires.leaf n c.requires.index c.place-at.ensures t e c.read_two-key.ensures.number c.requires.room in
-    let d = set-done old c.args.value.now c.args.index c.read_two-count.result c.place-at.result c.place-after.result c.place-end.result c.read_two-key.result c.move_part.new.bytes c.write_two.new.bytes c.write_part.new.bytes c.requires.leaf n c.requires.index c.place-at.ensures t c.requires.value c.requires.room w c.move_part.ensures c.write_two.ensures c.write_part.ensures in
-    let r = revalued m c.args.index c.args.value.now in
-    let k : c.read_two-count.result ≡ length r = omega (arith, n, revalued-length m c.args.index c.args.value.now) in
-    record { row = row-there c.write_part.new.bytes r c.read_two-count.result k d.row }
+finish-requires c = record { row = (done (goal.at.finish-requires c).After-write_part).row }
 
 pub returns-clause-entries : goal.returns-clause-entries
-returns-clause-entries c =
-    let old = c.args.bytes.now in
-    let m = entries_of old in
-    let n = c.read_two-count.ensures.number ∙ leaf-count old c.requires.leaf in
-    let e = c.place-end.ensures ∙ ap (λ t. place_in m t) n in
-    let j : c.args.index + 1 ≡ suc c.args.index = omega arith in
-    let t : c.place-after.result ≡ place_in m (suc c.args.index) = c.place-after.ensures ∙ ap (λ x. place_in m x) j in
-    let w = setting old c.args.value.now c.args.index c.read_two-count.result c.place-at.result c.place-after.result c.place-end.result c.read_two-key.result c.requires.leaf n c.requires.index c.place-at.ensures t e c.read_two-key.ensures.number c.requires.room in
-    let d = set-done old c.args.value.now c.args.index c.read_two-count.result c.place-at.result c.place-after.result c.place-end.result c.read_two-key.result c.move_part.new.bytes c.write_two.new.bytes c.write_part.new.bytes c.requires.leaf n c.requires.index c.place-at.ensures t c.requires.value c.requires.room w c.move_part.ensures c.write_two.ensures c.write_part.ensures in
-    let r = revalued m c.args.index c.args.value.now in
-    let k : c.read_two-count.result ≡ length r = omega (arith, n, revalued-length m c.args.index c.args.value.now) in
-    c.finish.ensures.entries ∙ row-read c.write_part.new.bytes r c.read_two-count.result k d.row
+returns-clause-entries c = c.finish.ensures.entries ∙ (done (goal.at.returns-clause-entries c).After-write_part).read
 
 pub returns-clause-next : goal.returns-clause-next
-returns-clause-next c =
-    let old = c.args.bytes.now in
-    let m = entries_of old in
-    let n = c.read_two-count.ensures.number ∙ leaf-count old c.requires.leaf in
-    let e = c.place-end.ensures ∙ ap (λ t. place_in m t) n in
-    let j : c.args.index + 1 ≡ suc c.args.index = omega arith in
-    let t : c.place-after.result ≡ place_in m (suc c.args.index) = c.place-after.ensures ∙ ap (λ x. place_in m x) j in
-    let w = setting old c.args.value.now c.args.index c.read_two-count.result c.place-at.result c.place-after.result c.place-end.result c.read_two-key.result c.requires.leaf n c.requires.index c.place-at.ensures t e c.read_two-key.ensures.number c.requires.room in
-    let d = set-done old c.args.value.now c.args.index c.read_two-count.result c.place-at.result c.place-after.result c.place-end.result c.read_two-key.result c.move_part.new.bytes c.write_two.new.bytes c.write_part.new.bytes c.requires.leaf n c.requires.index c.place-at.ensures t c.requires.value c.requires.room w c.move_part.ensures c.write_two.ensures c.write_part.ensures in
-    let r = revalued m c.args.index c.args.value.now in
-    let k : c.read_two-count.result ≡ length r = omega (arith, n, revalued-length m c.args.index c.args.value.now) in
-    c.finish.ensures.next ∙ d.next
+returns-clause-next c = c.finish.ensures.next ∙ (done (goal.at.returns-clause-next c).After-write_part).next

@@ -1,4 +1,4 @@
-use Rattle.std.proofs.Common.{◌≡◌, ◌+◌, ◌-◌, ◌*◌, length, take}
+use Rattle.std.proofs.Common.{◌≡◌, ◌+◌, ◌*◌, length, take}
 use Rattle.mm_page.specs.Leaf.{pasted, slots, cells, entries_at}
 use Rattle.mm_page.proofs.change.write_slots.Given as goal
 

@@ -1,6 +1,6 @@
 use Rattle.std.proofs.Common.{◌≡◌, ◌<◌, ◌-◌, length, get_or, sym, ap, ◌∙◌, subst, arith}
 use Rattle.mm_keeper.specs.Entries.{below}
-use Rattle.mm_keeper.proofs.Blocked.{ends_at}
+use Rattle.mm_keeper.specs.Facts.Blocked.{ends_at}
 use Rattle.mm_keeper.proofs.block.Block.ends_below.Goals as goal
 
 pub returns-else-count-eq0 : goal.returns-else-count-eq0

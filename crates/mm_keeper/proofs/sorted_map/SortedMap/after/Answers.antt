@@ -1,5 +1,5 @@
 use Rattle.std.proofs.Common.{◌<◌, length, get_or, [], sym, ◌∙◌, subst}
-use Rattle.mm_keeper.proofs.Blocked.{place-in_range}
+use Rattle.mm_keeper.specs.Facts.Blocked.{place-in_range}
 use Rattle.mm_keeper.proofs.sorted_map.SortedMap.after.Goals as goal
 
 pub spot_after-requires-clause-block : goal.spot_after-requires-clause-block

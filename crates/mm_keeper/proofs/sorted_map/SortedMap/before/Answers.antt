@@ -1,5 +1,5 @@
 use Rattle.std.proofs.Common.{◌≡◌, ◌<◌, ◌≤◌, length, get_or, [], sym, ◌∙◌, subst, arith, inr, ◌⊎◌}
-use Rattle.mm_keeper.proofs.Blocked.{place-in_range}
+use Rattle.mm_keeper.specs.Facts.Blocked.{place-in_range}
 use Rattle.mm_keeper.proofs.sorted_map.SortedMap.before.Goals as goal
 
 pub spot_before-requires-clause-block : goal.spot_before-requires-clause-block

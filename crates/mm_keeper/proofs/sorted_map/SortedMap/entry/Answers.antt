@@ -1,5 +1,5 @@
 use Rattle.std.proofs.Common.{◌<◌, length, get_or, [], sym, ◌∙◌, subst}
-use Rattle.mm_keeper.proofs.Blocked.{place-in_range}
+use Rattle.mm_keeper.specs.Facts.Blocked.{place-in_range}
 use Rattle.mm_keeper.proofs.sorted_map.SortedMap.entry.Goals as goal
 
 pub entry_at-requires-clause-block : goal.entry_at-requires-clause-block

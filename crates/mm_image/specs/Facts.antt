@@ -1,0 +1,6 @@
+-- What follows from the definitions, for the proofs of the crates above.
+pub mod Keys
+pub mod Members
+pub mod Upto
+pub mod Finding
+pub mod LabelOrder

@@ -1,0 +1,4 @@
+mod Lookups
+mod Searching
+mod Stripped
+mod Answering

@@ -1,0 +1,62 @@
+-- Page 0: its bytes, and what is read from them.
+use Rattle.std.proofs.Common.{◌≡◌, ℕ, ◌+◌, ◌^◌, ◌≤◌, ◌<◌, Bool, true, false, cond, List, ◌++◌, length, drop, replicate, None, refl, sym, ap, ap₂, ◌∙◌, subst, arith, append_assoc}
+use Rattle.std.specs.Prelude.{◌↔◌, ◌==◌, nat_lt, Option}
+use Rattle.std.proofs.lemmas.Bool.Decides.{nat_tests}
+use Rattle.std.proofs.lemmas.List.{length-append, drop_at, drop-replicate}
+use Rattle.byteorder.specs.Endian.{big_number, big_bytes}
+use Rattle.byteorder.specs.Numbers.{big_number-reads_back, length-bytes_high_first}
+use Rattle.mm_page.specs.Leaf.{pasted}
+use Rattle.mm_page.specs.Rules.{broken}
+use Rattle.mm_page.specs.Header.{mark, header_of, header_fault, header_bytes}
+use Rattle.mm_page.specs.declared.header.Header.{Header}
+use Rattle.mm_page.specs.declared.rules.Violation.{Violation}
+use Rattle.mm_page.proofs.Blocks.{pasted-more}
+
+pub header-written : (a b c s1 s2 s3 : List ℕ) → length a ≡ 8 → length b ≡ 8 → length c ≡ 8 → s1 ≡ pasted (replicate 4096 0) 0 a → s2 ≡ pasted s1 8 b → s3 ≡ pasted s2 16 c → s3 ≡ ((a ++ b) ++ c) ++ replicate 4072 0
+header-written a b c s1 s2 s3 la lb lc q1 q2 q3 =
+    let z : List ℕ = replicate 4096 0 in
+    let w2 : s2 ≡ pasted z 0 (a ++ b) = q2 ∙ ap (λ t. pasted t 8 b) q1 ∙ pasted-more z 0 a 8 b (omega arith) (omega (arith, la)) in
+    let w3 : s3 ≡ pasted z 0 ((a ++ b) ++ c) = q3 ∙ ap (λ t. pasted t 16 c) w2 ∙ pasted-more z 0 (a ++ b) 16 c (omega arith) (omega (arith, length-append a b, la, lb)) in
+    let n : 0 + length ((a ++ b) ++ c) ≡ 24 = omega (arith, length-append (a ++ b) c, length-append a b, la, lb, lc) in
+    w3 ∙ ap (λ t. ((a ++ b) ++ c) ++ t) (ap (λ t. drop t z) n ∙ drop-replicate 24 4096 0)
+
+-- three numbers of eight bytes, read
+pub record AreRead (x : List ℕ) (p f : ℕ) : Type 0 where
+  pub first : big_number 8 x ≡ mark
+  pub second : big_number 8 (drop 8 x) ≡ p
+  pub third : big_number 8 (drop 16 x) ≡ f
+
+pub numbers-read : (p f : ℕ) → p < 2 ^ 64 → f < 2 ^ 64 → AreRead (header_bytes (record { pages = p; first = f })) p f
+numbers-read p f hp hf =
+    let a = big_bytes 8 mark in
+    let b = big_bytes 8 p in
+    let c = big_bytes 8 f in
+    let z : List ℕ = replicate 4072 0 in
+    let la = length-bytes_high_first 8 mark in
+    let lb = length-bytes_high_first 8 p in
+    let apart : ((a ++ b) ++ c) ++ z ≡ (a ++ b) ++ (c ++ z) = append_assoc (a ++ b) c z in
+    let each : ((a ++ b) ++ c) ++ z ≡ a ++ (b ++ (c ++ z)) = apart ∙ append_assoc a b (c ++ z) in
+    record {
+      first = ap (λ t. big_number 8 t) each ∙ big_number-reads_back 8 mark (b ++ (c ++ z)) (omega arith);
+      second = ap (λ t. big_number 8 (drop 8 t)) each ∙ ap (λ t. big_number 8 t) (drop_at a (b ++ (c ++ z)) 8 la) ∙ big_number-reads_back 8 p (c ++ z) (omega (arith, hp));
+      third = ap (λ t. big_number 8 (drop 16 t)) apart ∙ ap (λ t. big_number 8 t) (drop_at (a ++ b) (c ++ z) 16 (omega (arith, length-append a b, la, lb))) ∙ big_number-reads_back 8 f z (omega (arith, hf));
+    }
+
+pub header-back : (h : Header) → h.pages < 2 ^ 64 → h.first < 2 ^ 64 → header_of (header_bytes h) ≡ h
+header-back h hp hf =
+    let r = numbers-read h.pages h.first hp hf in
+    ap₂ (λ s t. record { pages = s; first = t }) r.second r.third
+
+pub header-right : (h : Header) → h.pages < 2 ^ 64 → h.first < 2 ^ 64 → (header_fault (header_bytes h) ≡ None) ↔ ((2 ≤ h.pages) × (h.pages ≤ 2 ^ 43))
+header-right h hp hf =
+    let r = numbers-read h.pages h.first hp hf in
+    let e : header_fault (header_bytes h) ≡ told mark h.pages = ap₂ told r.first r.second in
+    subst (λ t. (t ≡ None) ↔ ((2 ≤ h.pages) × (h.pages ≤ 2 ^ 43))) (sym e) (cases h.pages (nat_lt h.pages 2) (nat_lt (2 ^ 43) h.pages) refl refl)
+  where
+    told : ℕ → ℕ → Option Violation
+    told m p = cond (m == mark) (cond (nat_lt p 2) (broken 2 p (2 ^ 43)) (cond (nat_lt (2 ^ 43) p) (broken 2 p (2 ^ 43)) None)) (broken 1 m mark)
+
+    cases : (p : ℕ) (a b : Bool) → nat_lt p 2 ≡ a → nat_lt (2 ^ 43) p ≡ b → (cond a (broken 2 p (2 ^ 43)) (cond b (broken 2 p (2 ^ 43)) None) ≡ None) ↔ ((2 ≤ p) × (p ≤ 2 ^ 43))
+    cases p true b q r = ((λ h. absurd cc), (λ h. absurd (let l = h.0 in grind (arith, nat_tests))))
+    cases p false true q r = ((λ h. absurd cc), (λ h. absurd (let l = h.1 in grind (arith, nat_tests))))
+    cases p false false q r = ((λ h. (grind (arith, nat_tests), grind (arith, nat_tests))), (λ h. refl))
