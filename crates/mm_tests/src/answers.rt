@@ -2,7 +2,7 @@
 
 ghost use Rattle.std.specs.Prelude.{◌≡◌, ◌<◌};
 
-use crate::documents::{BIBLIOGRAPHY, NOTES, copies, joined};
+use crate::documents::{BIBLIOGRAPHY, NOTES, copies, have_texts};
 use mm_host::Fault;
 use mm_label::Label;
 use mm_list::Items;
@@ -13,7 +13,6 @@ use mm_words::Query;
 use mm_words::calls::query;
 use std::alloc::Global;
 use std::marker::Brand;
-use std::process::Abort;
 use std::sync::ledger::{Blank, Ledger};
 use std::test::Fail;
 
@@ -47,89 +46,84 @@ fn exclusive<L: Ledger>(
     mm_elca::answers(alloc, query, &mut lists, &mut steps)
 }
 
-/// Whether both searches for the words of the text find what the plain walk finds; the texts of the labels.
-fn smallest_agreed(alloc: Global, forest: &Forest, text: &str) -> Result<(String, bool), Fail> {
-    let query = query(alloc, text)?;
-    let fast = smallest::<Brand>(alloc, Blank::new(1), forest, &query)?;
-    let plain = slca(alloc, forest, &query)?;
-    let fast = joined(alloc, fast.as_slice())?;
-    let plain = joined(alloc, plain.as_slice())?;
-    let is_same = fast.as_str() == plain.as_str();
-    Ok((fast, is_same))
+/// Whether both searches for the smallest answers find those with these texts.
+fn smallest_are(alloc: Global, forest: &Forest, query: &Query, due: &[&str]) -> Result<bool, Fail> {
+    let plain = slca(alloc, forest, query)?;
+    let fast = smallest::<Brand>(alloc, Blank::new(1), forest, query)?;
+    Ok(plain.as_slice() == fast.as_slice() && have_texts(alloc, fast.as_slice(), due)?)
 }
 
-fn exclusive_agreed(alloc: Global, forest: &Forest, text: &str) -> Result<(String, bool), Fail> {
-    let query = query(alloc, text)?;
-    let fast = exclusive::<Brand>(alloc, Blank::new(1), forest, &query)?;
-    let plain = elca(alloc, forest, &query)?;
-    let fast = joined(alloc, fast.as_slice())?;
-    let plain = joined(alloc, plain.as_slice())?;
-    let is_same = fast.as_str() == plain.as_str();
-    Ok((fast, is_same))
-}
-
-fn assert_smallest(
-    rt: &impl Abort,
+/// Whether both searches for the exclusive answers find those with these texts.
+fn exclusive_are(
     alloc: Global,
     forest: &Forest,
-    text: &str,
-    due: &str,
-) -> Result<(), Fail> {
-    let (found, is_same) = smallest_agreed(alloc, forest, text)?;
-    assert_eq!(rt; found.as_str(), due);
-    assert!(rt; is_same);
-    Ok(())
-}
-
-fn assert_exclusive(
-    rt: &impl Abort,
-    alloc: Global,
-    forest: &Forest,
-    text: &str,
-    due: &str,
-) -> Result<(), Fail> {
-    let (found, is_same) = exclusive_agreed(alloc, forest, text)?;
-    assert_eq!(rt; found.as_str(), due);
-    assert!(rt; is_same);
-    Ok(())
+    query: &Query,
+    due: &[&str],
+) -> Result<bool, Fail> {
+    let plain = elca(alloc, forest, query)?;
+    let fast = exclusive::<Brand>(alloc, Blank::new(1), forest, query)?;
+    Ok(plain.as_slice() == fast.as_slice() && have_texts(alloc, fast.as_slice(), due)?)
 }
 
 /// So many copies of a document, a query, the labels of its smallest answers and those of its exclusive ones.
-const TABLE: [(&str, u8, &str, &str, &str); 8] = [
-    (BIBLIOGRAPHY, 0, "liu", "", ""),
-    (BIBLIOGRAPHY, 1, "liu chen", "1", "1"),
-    (BIBLIOGRAPHY, 1, "absent liu", "", ""),
+type Case = (
+    &'static str,
+    u8,
+    &'static str,
+    &'static [&'static str],
+    &'static [&'static str],
+);
+
+const TABLE: [Case; 8] = [
+    (BIBLIOGRAPHY, 0, "liu", &[], &[]),
+    (BIBLIOGRAPHY, 1, "liu chen", &["1"], &["1"]),
+    (BIBLIOGRAPHY, 1, "absent liu", &[], &[]),
     (
         BIBLIOGRAPHY,
         2,
         "title author",
-        "1.1 1.3 3.1 3.3",
-        "1.1 1.3 3.1 3.3",
+        &["1.1", "1.3", "3.1", "3.3"],
+        &["1.1", "1.3", "3.1", "3.3"],
     ),
     (
         BIBLIOGRAPHY,
         3,
         "chen keyword",
-        "1.3 3.3 5.3",
-        "1.3 3.3 5.3",
+        &["1.3", "3.3", "5.3"],
+        &["1.3", "3.3", "5.3"],
     ),
-    (NOTES, 1, "xml liu", "1.1.1", "1 1.1.1"),
+    (NOTES, 1, "xml liu", &["1.1.1"], &["1", "1.1.1"]),
     (
         NOTES,
         2,
         "xml",
-        "1.1.1 1.3.1 3.1.1 3.3.1",
-        "1.1.1 1.3.1 3.1.1 3.3.1",
+        &["1.1.1", "1.3.1", "3.1.1", "3.3.1"],
+        &["1.1.1", "1.3.1", "3.1.1", "3.3.1"],
     ),
-    (NOTES, 3, "book liu", "1.1 3.1 5.1", "1.1 3.1 5.1"),
+    (
+        NOTES,
+        3,
+        "book liu",
+        &["1.1", "3.1", "5.1"],
+        &["1.1", "3.1", "5.1"],
+    ),
 ];
+
+/// Whether all four searches find what is due.
+fn agrees(alloc: Global, case: &Case) -> Result<bool, Fail> {
+    let (document, times, text, smallest, exclusive) = *case;
+    let forest = copies(alloc, document, times)?;
+    let query = query(alloc, text)?;
+    Ok(
+        smallest_are(alloc, &forest, &query, smallest)?
+            && exclusive_are(alloc, &forest, &query, exclusive)?,
+    )
+}
 
 #[test]
 fn both_searches_find_what_the_plain_walks_find(rt: HostRuntime) -> Result<(), Fail> {
-    for (document, times, text, smallest, exclusive) in TABLE {
-        let forest = copies(rt.alloc(), document, times)?;
-        assert_smallest(&rt, rt.alloc(), &forest, text, smallest)?;
-        assert_exclusive(&rt, rt.alloc(), &forest, text, exclusive)?;
+    for case in &TABLE {
+        assert!(rt; agrees(rt.alloc(), case)?);
     }
     Ok(())
 }

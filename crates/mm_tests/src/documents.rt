@@ -39,14 +39,26 @@ pub fn copies(alloc: Global, document: &str, times: u8) -> Result<Forest, Fail> 
     Ok(forest)
 }
 
-/// The texts of the labels, parted by spaces.
-pub fn joined(alloc: Global, labels: &[Label]) -> Result<String, AllocError> {
-    let mut all = String::new(alloc);
-    for label in labels {
-        if !all.is_empty() {
-            all.push_str(" ")?;
-        }
-        all.push_str(label.text(alloc)?.as_str())?;
+/// Puts a piece behind a text, so many times.
+pub fn push_times(text: &mut String, piece: &str, times: usize) -> Result<(), AllocError> {
+    for _ in 0..times {
+        text.push_str(piece)?;
     }
-    Ok(all)
+    Ok(())
+}
+
+/// Whether the label has this text.
+pub fn has_text(alloc: Global, label: &Label, text: &str) -> Result<bool, AllocError> {
+    let own = label.text(alloc)?;
+    Ok(own.as_str() == text)
+}
+
+/// Whether the labels have these texts.
+pub fn have_texts(alloc: Global, labels: &[Label], texts: &[&str]) -> Result<bool, AllocError> {
+    for (label, text) in labels.iter().zip(texts) {
+        if !has_text(alloc, label, text)? {
+            return Ok(false);
+        }
+    }
+    Ok(labels.len() == texts.len())
 }

@@ -2,7 +2,7 @@
 
 ghost use Rattle.std.specs.Prelude.{◌≡◌, ◌<◌};
 
-use crate::documents::{BIBLIOGRAPHY, copies};
+use crate::documents::{BIBLIOGRAPHY, copies, has_text};
 use mm_host::Fault;
 use mm_label::Label;
 use mm_lists::{Lists, MemLists, Shortest, candidate, find_shortest};
@@ -19,11 +19,11 @@ fn word(alloc: Global, text: &str) -> Result<Word, Fail> {
     Ok(Word::from_bytes(alloc, text.as_bytes())?.ok_or("not a word")?)
 }
 
-/// The text of the label, or a dash.
-fn shown(alloc: Global, label: &Option<Label>) -> Result<String, AllocError> {
+/// Whether there is a label with the text; of a dash, whether there is none.
+fn is(alloc: Global, label: &Option<Label>, text: &str) -> Result<bool, AllocError> {
     match label {
-        Some(label) => label.text(alloc),
-        None => String::from_str(alloc, "-"),
+        Some(label) => has_text(alloc, label, text),
+        None => Ok(text == "-"),
     }
 }
 
@@ -56,21 +56,22 @@ fn look<L: Ledger>(
     })
 }
 
-/// These four, parted by spaces.
-fn looked(alloc: Global, forest: &Forest, text: &str, at: &str) -> Result<String, Fail> {
+fn look_for(alloc: Global, forest: &Forest, text: &str, at: &str) -> Result<Around, Fail> {
     let word = word(alloc, text)?;
     let at = Label::parse(alloc, at)?;
     let mut lists = MemLists::of(alloc, forest)?;
-    let found = look::<Brand>(Blank::new(1), &mut lists, &word, &at)?;
-    joined(alloc, &found)
+    Ok(look::<Brand>(Blank::new(1), &mut lists, &word, &at)?)
 }
 
-fn joined(alloc: Global, found: &Around) -> Result<String, Fail> {
-    let left = shown(alloc, &found.left)?;
-    let right = shown(alloc, &found.right)?;
-    let next = shown(alloc, &found.next)?;
-    let past = shown(alloc, &found.past)?;
-    Ok(format!(in alloc; "{left} {right} {next} {past}")?)
+/// Whether these four are found.
+fn are(alloc: Global, found: &Around, due: [&str; 4]) -> Result<bool, AllocError> {
+    let [left, right, next, past] = due;
+    Ok(
+        is(alloc, &found.left, left)?
+            && is(alloc, &found.right, right)?
+            && is(alloc, &found.next, next)?
+            && is(alloc, &found.past, past)?,
+    )
 }
 
 #[test]
@@ -78,16 +79,24 @@ fn nodes_next_to_a_label(rt: HostRuntime) -> Result<(), Fail> {
     let alloc = rt.alloc();
     let forest = copies(alloc, BIBLIOGRAPHY, 1)?;
     for (text, at, due) in [
-        ("search", "1.1.1.1", "1.1.1.1 1.1.1.1 1.3.1.1 1.3.1.1"),
-        ("search", "1", "- 1.1.1.1 1.1.1.1 -"),
-        ("search", "1.1", "- 1.1.1.1 1.1.1.1 1.3.1.1"),
-        ("search", "1.2.1", "1.1.1.1 1.3.1.1 1.3.1.1 1.3.1.1"),
-        ("search", "3", "1.3.1.1 - - -"),
-        ("book", "1.3", "1.3 1.3 - -"),
-        ("absent", "1", "- - - -"),
+        (
+            "search",
+            "1.1.1.1",
+            ["1.1.1.1", "1.1.1.1", "1.3.1.1", "1.3.1.1"],
+        ),
+        ("search", "1", ["-", "1.1.1.1", "1.1.1.1", "-"]),
+        ("search", "1.1", ["-", "1.1.1.1", "1.1.1.1", "1.3.1.1"]),
+        (
+            "search",
+            "1.2.1",
+            ["1.1.1.1", "1.3.1.1", "1.3.1.1", "1.3.1.1"],
+        ),
+        ("search", "3", ["1.3.1.1", "-", "-", "-"]),
+        ("book", "1.3", ["1.3", "1.3", "-", "-"]),
+        ("absent", "1", ["-", "-", "-", "-"]),
     ] {
-        let found = looked(alloc, &forest, text, at)?;
-        assert_eq!(rt; found.as_str(), due);
+        let found = look_for(alloc, &forest, text, at)?;
+        assert!(rt; are(alloc, &found, due)?);
     }
     Ok(())
 }
@@ -109,12 +118,12 @@ fn start<L: Ledger>(
     ))
 }
 
-fn started(alloc: Global, forest: &Forest, text: &str) -> Result<String, Fail> {
+/// Whether the list of the word has so many nodes and this first.
+fn starts(alloc: Global, forest: &Forest, text: &str, due: (u64, &str)) -> Result<bool, Fail> {
     let word = word(alloc, text)?;
     let mut lists = MemLists::of(alloc, forest)?;
     let (count, first) = start::<Brand>(Blank::new(1), &mut lists, &word)?;
-    let first = shown(alloc, &first)?;
-    Ok(format!(in alloc; "{count} {first}")?)
+    Ok(count == due.0 && is(alloc, &first, due.1)?)
 }
 
 #[test]
@@ -122,14 +131,13 @@ fn how_a_list_begins(rt: HostRuntime) -> Result<(), Fail> {
     let alloc = rt.alloc();
     let forest = copies(alloc, BIBLIOGRAPHY, 1)?;
     for (text, due) in [
-        ("search", "2 1.1.1.1"),
-        ("liu", "1 1.1.3.1"),
-        ("bib", "1 1"),
-        ("title", "2 1.1.1"),
-        ("absent", "0 -"),
+        ("search", (2, "1.1.1.1")),
+        ("liu", (1, "1.1.3.1")),
+        ("bib", (1, "1")),
+        ("title", (2, "1.1.1")),
+        ("absent", (0, "-")),
     ] {
-        let found = started(alloc, &forest, text)?;
-        assert_eq!(rt; found.as_str(), due);
+        assert!(rt; starts(alloc, &forest, text, due)?);
     }
     Ok(())
 }
@@ -155,14 +163,17 @@ fn begin<L: Ledger>(
     Ok((best, over))
 }
 
-fn begun(alloc: Global, forest: &Forest, text: &str) -> Result<String, Fail> {
+/// Whether the shortest list is that of the word at the place, with so many nodes, and the candidate this one.
+fn begins(
+    alloc: Global,
+    forest: &Forest,
+    text: &str,
+    due: (usize, u64, &str),
+) -> Result<bool, Fail> {
     let query = query(alloc, text)?;
     let mut lists = MemLists::of(alloc, forest)?;
     let (best, over) = begin::<Brand>(alloc, Blank::new(1), &mut lists, &query)?;
-    let over = shown(alloc, &over)?;
-    let at = best.at;
-    let size = best.size;
-    Ok(format!(in alloc; "{at} {size} {over}")?)
+    Ok(best.at == due.0 && best.size == due.1 && is(alloc, &over, due.2)?)
 }
 
 #[test]
@@ -170,14 +181,13 @@ fn the_shortest_list_and_a_candidate(rt: HostRuntime) -> Result<(), Fail> {
     let alloc = rt.alloc();
     let forest = copies(alloc, BIBLIOGRAPHY, 1)?;
     for (text, due) in [
-        ("search liu", "1 1 1.1"),
-        ("search", "0 2 1.1.1.1"),
-        ("liu chen", "0 1 1"),
-        ("absent liu", "0 0 -"),
-        ("title book author", "0 2 1.1"),
+        ("search liu", (1, 1, "1.1")),
+        ("search", (0, 2, "1.1.1.1")),
+        ("liu chen", (0, 1, "1")),
+        ("absent liu", (0, 0, "-")),
+        ("title book author", (0, 2, "1.1")),
     ] {
-        let found = begun(alloc, &forest, text)?;
-        assert_eq!(rt; found.as_str(), due);
+        assert!(rt; begins(alloc, &forest, text, due)?);
     }
     Ok(())
 }

@@ -1,9 +1,9 @@
 //! The worked rows of two documents, and labels with carets.
 
+use crate::documents::has_text;
 use mm_label::Label;
 use mm_match::{Mark, masks, prune};
-use std::alloc::Global;
-use std::process::Abort;
+use std::alloc::{AllocError, Global};
 use std::test::Fail;
 
 /// The marks with these labels and masks.
@@ -16,47 +16,34 @@ fn marks(alloc: Global, table: &[(&str, u32)]) -> Result<Vec<Mark>, Fail> {
     Ok(marks)
 }
 
-/// A line for each mark, its label and its mask.
-fn shown(alloc: Global, marks: &[Mark]) -> Result<String, Fail> {
-    let mut text = String::new(alloc);
-    for mark in marks {
-        text.push_str(mark.label.text(alloc)?.as_str())?;
-        text.push_str([" 0", " 1", " 2", " 3", " 4", " 5", " 6", " 7"][(mark.mask % 8) as usize])?;
-        text.push_str("\n")?;
+/// Whether the marks have these labels and masks.
+fn are(alloc: Global, marks: &[Mark], wanted: &[(&str, u32)]) -> Result<bool, AllocError> {
+    for (mark, (text, mask)) in marks.iter().zip(wanted) {
+        if mark.mask != *mask || !has_text(alloc, &mark.label, text)? {
+            return Ok(false);
+        }
     }
-    Ok(text)
+    Ok(marks.len() == wanted.len())
 }
 
-fn assert_masks(
-    rt: &impl Abort,
+/// Whether the nodes above the matches get these masks.
+fn are_masks(
     alloc: Global,
     root: &str,
     matches: &[(&str, u32)],
     wanted: &[(&str, u32)],
-) -> Result<(), Fail> {
+) -> Result<bool, Fail> {
     let root = Label::parse(alloc, root)?;
-    let found = masks(alloc, &root, marks(alloc, matches)?.as_slice())?;
-    let wanted = marks(alloc, wanted)?;
-    assert_eq!(rt;
-        shown(alloc, found.as_slice())?.as_str(),
-        shown(alloc, wanted.as_slice())?.as_str()
-    );
-    Ok(())
+    let matches = marks(alloc, matches)?;
+    let found = masks(alloc, &root, matches.as_slice())?;
+    Ok(are(alloc, found.as_slice(), wanted)?)
 }
 
-fn assert_kept(
-    rt: &impl Abort,
-    alloc: Global,
-    marked: &[(&str, u32)],
-    wanted: &[(&str, u32)],
-) -> Result<(), Fail> {
-    let kept = prune(alloc, marks(alloc, marked)?.as_slice())?;
-    let wanted = marks(alloc, wanted)?;
-    assert_eq!(rt;
-        shown(alloc, kept.as_slice())?.as_str(),
-        shown(alloc, wanted.as_slice())?.as_str()
-    );
-    Ok(())
+/// Whether these of the marks are kept.
+fn are_kept(alloc: Global, marked: &[(&str, u32)], wanted: &[(&str, u32)]) -> Result<bool, Fail> {
+    let marked = marks(alloc, marked)?;
+    let kept = prune(alloc, marked.as_slice())?;
+    Ok(are(alloc, kept.as_slice(), wanted)?)
 }
 
 /// The marks of `bears gold pos` in a team of two players.
@@ -81,32 +68,37 @@ fn masks_of_two_players(rt: HostRuntime) -> Result<(), Fail> {
         ("1.3.1.3", 4),
         ("1.3.3.3", 4),
     ];
-    assert_masks(&rt, rt.alloc(), "1", &matches, &PLAYERS)
+    assert!(rt; are_masks(rt.alloc(), "1", &matches, &PLAYERS)?);
+    Ok(())
 }
 
 #[test]
 fn the_second_player_is_pruned(rt: HostRuntime) -> Result<(), Fail> {
-    assert_kept(&rt, rt.alloc(), &PLAYERS, &PLAYERS[..8])
+    assert!(rt; are_kept(rt.alloc(), &PLAYERS, &PLAYERS[..8])?);
+    Ok(())
 }
 
 #[test]
 fn parents_go_by_segments(rt: HostRuntime) -> Result<(), Fail> {
     let matches = [("1.2.1.3", 1), ("1.2.2.1", 2)];
     let wanted = [("1", 3), ("1.2.1", 1), ("1.2.1.3", 1), ("1.2.2.1", 2)];
-    assert_masks(&rt, rt.alloc(), "1", &matches, &wanted)
+    assert!(rt; are_masks(rt.alloc(), "1", &matches, &wanted)?);
+    Ok(())
 }
 
 #[test]
 fn a_root_below_others(rt: HostRuntime) -> Result<(), Fail> {
     let matches = [("1.3", 1), ("1.3.1.5", 2)];
     let wanted = [("1.3", 3), ("1.3.1", 2), ("1.3.1.5", 2)];
-    assert_masks(&rt, rt.alloc(), "1.3", &matches, &wanted)
+    assert!(rt; are_masks(rt.alloc(), "1.3", &matches, &wanted)?);
+    Ok(())
 }
 
 #[test]
 fn no_matches(rt: HostRuntime) -> Result<(), Fail> {
-    assert_masks(&rt, rt.alloc(), "1", &[], &[])?;
-    assert_kept(&rt, rt.alloc(), &[], &[])
+    assert!(rt; are_masks(rt.alloc(), "1", &[], &[])?);
+    assert!(rt; are_kept(rt.alloc(), &[], &[])?);
+    Ok(())
 }
 
 #[test]

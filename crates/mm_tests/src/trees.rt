@@ -2,6 +2,7 @@
 
 ghost use Rattle.std.specs.Prelude.{◌<◌, ◌^◌, length};
 
+use crate::documents::push_times;
 use mm_label::Label;
 use mm_tree::{Forest, Place, Refusal, TreeError, own_words};
 use mm_words::Word;
@@ -18,13 +19,6 @@ fn loaded(alloc: Global, forest: &mut Forest, bytes: &[u8]) -> Result<u64, Fail>
         Err(TreeError::Refused(Refusal::Room)) => Ok(0),
         Err(error) => Err(error)?,
     }
-}
-
-fn push_times(text: &mut String, piece: &str, times: usize) -> Result<(), AllocError> {
-    for _ in 0..times {
-        text.push_str(piece)?;
-    }
-    Ok(())
 }
 
 /// So many elements inside one another, each with so many empty ones before the next.
@@ -69,31 +63,37 @@ fn a_label_of_513_bytes_has_no_room(rt: HostRuntime) -> Result<(), Fail> {
     Ok(())
 }
 
-/// Puts an element behind the node with the label. The new label, or the word of the refusal.
-fn put_after(alloc: Global, forest: &mut Forest, label: &str) -> Result<String, Fail> {
-    let target = Label::parse(alloc, label)?;
+/// The label of an element that is put behind the node with this label; None where it has no room.
+fn put_after(alloc: Global, forest: &mut Forest, target: &Label) -> Result<Option<Label>, Fail> {
     let tree = read(alloc, b"<x/>")?;
-    match forest.insert(alloc, Place::After, &target, tree) {
-        Ok(done) => Ok(done.label.text(alloc)?),
-        Err(TreeError::Refused(refusal)) => Ok(String::from_str(alloc, refusal.word())?),
-        Err(TreeError::Memory) => Err(AllocError)?,
+    match forest.insert(alloc, Place::After, target, tree) {
+        Ok(done) => Ok(Some(done.label)),
+        Err(TreeError::Refused(Refusal::Room)) => Ok(None),
+        Err(error) => Err(error)?,
     }
-}
-
-fn byte_count(alloc: Global, label: &str) -> Result<usize, Fail> {
-    let label = Label::parse(alloc, label)?;
-    Ok(label.as_bytes().len())
 }
 
 /// So many pairs in the gap behind 1.1: the first of a pair directly behind that of the pair before,
 /// the second directly behind the first. The first of the last pair.
-fn narrowed(alloc: Global, forest: &mut Forest, pairs: u32) -> Result<String, Fail> {
-    let mut first = String::from_str(alloc, "1.1")?;
+fn narrowed(alloc: Global, forest: &mut Forest, pairs: u32) -> Result<Label, Fail> {
+    let mut first = Label::parse(alloc, "1.1")?;
     for _ in 0..pairs {
-        first = put_after(alloc, forest, first.as_str())?;
-        let _ = put_after(alloc, forest, first.as_str())?;
+        first = put_after(alloc, forest, &first)?.ok_or("no room")?;
+        let _ = put_after(alloc, forest, &first)?;
     }
     Ok(first)
+}
+
+/// The lengths of the next pair's labels, and whether one more has room between them.
+fn last_pair(
+    alloc: Global,
+    forest: &mut Forest,
+    first: &Label,
+) -> Result<([usize; 2], bool), Fail> {
+    let odd = put_after(alloc, forest, first)?.ok_or("no room")?;
+    let even = put_after(alloc, forest, &odd)?.ok_or("no room")?;
+    let lengths = [odd.as_bytes().len(), even.as_bytes().len()];
+    Ok((lengths, put_after(alloc, forest, &odd)?.is_some()))
 }
 
 #[test]
@@ -102,14 +102,7 @@ fn a_gap_is_narrowed_until_no_label_has_room(rt: HostRuntime) -> Result<(), Fail
     let mut forest = Forest::new(alloc);
     assert_eq!(rt; loaded(alloc, &mut forest, b"<a><b/><b/></a>")?, 3);
     let first = narrowed(alloc, &mut forest, 509)?;
-    let odd = put_after(alloc, &mut forest, first.as_str())?;
-    let even = put_after(alloc, &mut forest, odd.as_str())?;
-    assert_eq!(rt; byte_count(alloc, odd.as_str())?, 512);
-    assert_eq!(rt; byte_count(alloc, even.as_str())?, 512);
-    assert_eq!(rt;
-        put_after(alloc, &mut forest, odd.as_str())?.as_str(),
-        "room"
-    );
+    assert_eq!(rt; last_pair(alloc, &mut forest, &first)?, ([512, 512], false));
     Ok(())
 }
 

@@ -149,14 +149,35 @@ fn long(alloc: Global, bytes: u32) -> Result<Option<Word>, AllocError> {
     Word::from_bytes(alloc, repeated(alloc, "a", bytes)?.as_bytes())
 }
 
+fn is_word(alloc: Global, bytes: u32) -> Result<bool, AllocError> {
+    Ok(long(alloc, bytes)?.is_some())
+}
+
+/// Whether the longest word is the same once more.
+fn copies(alloc: Global) -> Result<bool, AllocError> {
+    match long(alloc, 256)? {
+        Some(word) => Ok(word.copy(alloc)? == word),
+        None => Ok(false),
+    }
+}
+
+/// Whether a word stands before the one that goes on behind it.
+fn rises(alloc: Global) -> Result<bool, AllocError> {
+    let longer = long(alloc, 256)?;
+    match (long(alloc, 255)?, longer) {
+        (Some(shorter), Some(longer)) => Ok(shorter < longer),
+        _ => Ok(false),
+    }
+}
+
 #[test]
 fn two_hundred_and_fifty_six_bytes_are_a_word(rt: HostRuntime) -> Result<(), Fail> {
     let alloc = rt.alloc();
-    let word = long(alloc, 256)?.ok_or("256 bytes")?;
-    assert_eq!(rt; word.copy(alloc)?, word);
-    assert!(rt; long(alloc, 255)?.ok_or("255 bytes")? < word);
-    assert_eq!(rt; long(alloc, 257)?, None);
-    assert_eq!(rt; long(alloc, 0)?, None);
-    assert_eq!(rt; Word::from_bytes(alloc, b"a\0b")?, None);
+    for (bytes, due) in [(0, false), (255, true), (256, true), (257, false)] {
+        assert!(rt; is_word(alloc, bytes)? == due);
+    }
+    assert!(rt; copies(alloc)?);
+    assert!(rt; rises(alloc)?);
+    assert!(rt; Word::from_bytes(alloc, b"a\0b")?.is_none());
     Ok(())
 }

@@ -1,4 +1,4 @@
-use Rattle.mm_tests.proofs.lists.started.Given as goal
+use Rattle.mm_tests.proofs.lists.starts.Given as goal
 
 abbrev pub ghosts-start : goal.ghosts-start
 ghosts-start a = record { name = a.blank.name; parts = a.blank.parts }
