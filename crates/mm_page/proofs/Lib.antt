@@ -7,6 +7,6 @@ mod Moves
 mod Setting
 mod Splitting
 mod Linking
-mod Heading
+mod SlotFacts
 mod Finding
 mod Valid

@@ -1,11 +1,11 @@
--- The empty leaf, and the number of the next one.
+-- The empty leaf, the number of the next one, and page 0.
 use Rattle.std.proofs.Common.{◌≡◌, ℕ, zero, suc, ◌+◌, ◌*◌, ◌^◌, ◌-◌, ◌≤◌, ◌<◌, List, [], ◌∷◌, ◌++◌, length, take, drop, replicate, slice_index, refl, ap, ap₂, ◌∙◌, arith}
-use Rattle.std.proofs.lemmas.List.{length-replicate, length-take-le, drop_at, drop-replicate}
+use Rattle.std.proofs.lemmas.List.{length-append, length-replicate, length-take-le, drop_at, drop-replicate}
 use Rattle.byteorder.specs.Endian.{big_from, big_number, big_bytes}
 use Rattle.byteorder.specs.Numbers.{big_number-reads_back}
 use Rattle.mm_page.specs.Leaf.{pasted, two, cells, slots, entries_of, next_of, Holds, IsLeaf}
 use Rattle.mm_page.specs.Inside.Rows.{IsRow}
-use Rattle.mm_page.proofs.Blocks.{pasted-length, stands-before, stands-after}
+use Rattle.mm_page.proofs.Blocks.{pasted-more, pasted-length, stands-before, stands-after}
 use Rattle.mm_page.proofs.Rows.{holds-entries, holds-leaf}
 
 zero-there : (i k : ℕ) → slice_index (replicate k 0) i ≡ 0
@@ -50,3 +50,11 @@ linked old next b l h =
       next = ap (λ t. big_number 8 t) (drop_at (take 4 old) (ys ++ drop (4 + length ys) old) 4 (length-take-le 4 old in_front))
           ∙ big_number-reads_back 8 next (drop (4 + length ys) old) b;
     }
+
+pub header-written : (a b c s1 s2 s3 : List ℕ) → length a ≡ 8 → length b ≡ 8 → length c ≡ 8 → s1 ≡ pasted (replicate 4096 0) 0 a → s2 ≡ pasted s1 8 b → s3 ≡ pasted s2 16 c → s3 ≡ ((a ++ b) ++ c) ++ replicate 4072 0
+header-written a b c s1 s2 s3 la lb lc q1 q2 q3 =
+    let z : List ℕ = replicate 4096 0 in
+    let w2 : s2 ≡ pasted z 0 (a ++ b) = q2 ∙ ap (λ t. pasted t 8 b) q1 ∙ pasted-more z 0 a 8 b (omega arith) (omega (arith, la)) in
+    let w3 : s3 ≡ pasted z 0 ((a ++ b) ++ c) = q3 ∙ ap (λ t. pasted t 16 c) w2 ∙ pasted-more z 0 (a ++ b) 16 c (omega arith) (omega (arith, length-append a b, la, lb)) in
+    let n : 0 + length ((a ++ b) ++ c) ≡ 24 = omega (arith, length-append (a ++ b) c, length-append a b, la, lb, lc) in
+    w3 ∙ ap (λ t. ((a ++ b) ++ c) ++ t) (ap (λ t. drop t z) n ∙ drop-replicate 24 4096 0)

@@ -6,9 +6,14 @@ mod bytes;
 mod change;
 mod find;
 mod header;
+mod mem_pages;
 mod page;
+mod pages;
 mod rules;
+mod slot;
 
 pub use header::Header;
+pub use mem_pages::MemPages;
 pub use page::Page;
+pub use pages::Pages;
 pub use rules::Violation;

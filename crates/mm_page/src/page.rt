@@ -71,6 +71,14 @@ impl Page {
         Ok(Page { bytes })
     }
 
+    /// The same page once more.
+    pub fn copy(&self, alloc: Global) -> Result<Page, AllocError>
+        ensures { IfOk result (λ p. p ≡ self.now) }
+    {
+        let bytes = Box::new(alloc, *self.bytes)?;
+        Ok(Page { bytes })
+    }
+
     /// The bytes of the page.
     pub fn bytes(&self) -> &[u8; 4096]
         ensures { result.now ≡ self.now }

@@ -3,7 +3,8 @@ use Rattle.std.specs.Prelude.{◌≤◌, ◌^◌, ◌↔◌, None}
 use Rattle.byteorder.specs.Endian.{big_bytes}
 use Rattle.byteorder.specs.Numbers.{length-bytes_high_first}
 use Rattle.mm_page.specs.Header.{mark, header_of, header_fault, header_bytes}
-use Rattle.mm_page.proofs.Heading.{header-written, header-back, header-right}
+use Rattle.mm_page.specs.Facts.Heading.{header-back, header-right}
+use Rattle.mm_page.proofs.Linking.{header-written}
 use Rattle.mm_page.proofs.header.Header.to_bytes.Goals.{After-write_eight-3}
 use Rattle.mm_page.proofs.header.Header.to_bytes.Goals as goal
 

@@ -1,24 +1,21 @@
--- Page 0: its bytes, and what is read from them.
-use Rattle.std.proofs.Common.{◌≡◌, ℕ, ◌+◌, ◌^◌, ◌≤◌, ◌<◌, Bool, true, false, cond, List, ◌++◌, length, drop, replicate, None, refl, sym, ap, ap₂, ◌∙◌, subst, arith, append_assoc}
-use Rattle.std.specs.Prelude.{◌↔◌, ◌==◌, nat_lt, Option}
+-- What is read from the bytes of page 0.
+use Rattle.std.proofs.Common.{◌≡◌, ℕ, ◌^◌, ◌≤◌, ◌<◌, Bool, true, false, cond, List, ◌++◌, length, drop, replicate, None, refl, sym, ap, ap₂, ◌∙◌, subst, arith, append_assoc}
+use Rattle.std.specs.Prelude.{◌↔◌, ◌==◌, nat_lt, Option, Some, option_map}
+use Rattle.std.specs.Coded.{Unit-prop}
+use native.Mathlib.Bridge.{le_prop}
 use Rattle.std.proofs.lemmas.Bool.Decides.{nat_tests}
-use Rattle.std.proofs.lemmas.List.{length-append, drop_at, drop-replicate}
+use Rattle.std.proofs.lemmas.List.{length-append, length-replicate, drop_at}
 use Rattle.byteorder.specs.Endian.{big_number, big_bytes}
 use Rattle.byteorder.specs.Numbers.{big_number-reads_back, length-bytes_high_first}
-use Rattle.mm_page.specs.Leaf.{pasted}
-use Rattle.mm_page.specs.Rules.{broken}
+use Rattle.mm_host.specs.declared.area.Area.TheVariants as area
+use Rattle.mm_host.specs.declared.damage.Damage.TheVariants as damage
+use Rattle.mm_host.specs.declared.damage.Fault.TheVariants as fault
+use Rattle.mm_page.specs.Rules.{broken, damaged}
 use Rattle.mm_page.specs.Header.{mark, header_of, header_fault, header_bytes}
 use Rattle.mm_page.specs.declared.header.Header.{Header}
 use Rattle.mm_page.specs.declared.rules.Violation.{Violation}
-use Rattle.mm_page.proofs.Blocks.{pasted-more}
-
-pub header-written : (a b c s1 s2 s3 : List ℕ) → length a ≡ 8 → length b ≡ 8 → length c ≡ 8 → s1 ≡ pasted (replicate 4096 0) 0 a → s2 ≡ pasted s1 8 b → s3 ≡ pasted s2 16 c → s3 ≡ ((a ++ b) ++ c) ++ replicate 4072 0
-header-written a b c s1 s2 s3 la lb lc q1 q2 q3 =
-    let z : List ℕ = replicate 4096 0 in
-    let w2 : s2 ≡ pasted z 0 (a ++ b) = q2 ∙ ap (λ t. pasted t 8 b) q1 ∙ pasted-more z 0 a 8 b (omega arith) (omega (arith, la)) in
-    let w3 : s3 ≡ pasted z 0 ((a ++ b) ++ c) = q3 ∙ ap (λ t. pasted t 16 c) w2 ∙ pasted-more z 0 (a ++ b) 16 c (omega arith) (omega (arith, length-append a b, la, lb)) in
-    let n : 0 + length ((a ++ b) ++ c) ≡ 24 = omega (arith, length-append (a ++ b) c, length-append a b, la, lb, lc) in
-    w3 ∙ ap (λ t. ((a ++ b) ++ c) ++ t) (ap (λ t. drop t z) n ∙ drop-replicate 24 4096 0)
+use Rattle.mm_page.specs.Paging.{head_damage}
+use Rattle.mm_page.specs.Slots.{IsHeader}
 
 -- three numbers of eight bytes, read
 pub record AreRead (x : List ℕ) (p f : ℕ) : Type 0 where
@@ -60,3 +57,29 @@ header-right h hp hf =
     cases p true b q r = ((λ h. absurd cc), (λ h. absurd (let l = h.0 in grind (arith, nat_tests))))
     cases p false true q r = ((λ h. absurd cc), (λ h. absurd (let l = h.1 in grind (arith, nat_tests))))
     cases p false false q r = ((λ h. (grind (arith, nat_tests), grind (arith, nat_tests))), (λ h. refl))
+
+-- ---- a header that may be there
+
+pub head-back : (o : Option Header) → IsHeader o → o ≡ option_map header_of (option_map header_bytes o)
+head-back None h = refl
+head-back (Some x) h = ap (λ t. Some t) (sym (header-back x (omega (arith, h.1)) (omega (arith, h.1, h.2))))
+
+pub header-long : (h : Header) → length (header_bytes h) ≡ 4096
+header-long h =
+    let a = big_bytes 8 mark in
+    let b = big_bytes 8 h.pages in
+    let c = big_bytes 8 h.first in
+    let z : List ℕ = replicate 4072 0 in
+    omega (arith, length-append ((a ++ b) ++ c) z, length-append (a ++ b) c, length-append a b, length-bytes_high_first 8 mark, length-bytes_high_first 8 h.pages, length-bytes_high_first 8 h.first, length-replicate {A = ℕ} 4072 0)
+
+pub head-right : (o : Option Header) → IsHeader o → head_damage (option_map header_bytes o) ≡ None
+head-right None h = refl
+head-right (Some x) h =
+    let short : nat_lt (length (header_bytes x)) 4096 ≡ false = (let l = header-long x in grind (arith, nat_tests)) in
+    let right : header_fault (header_bytes x) ≡ None = (header-right x (omega (arith, h.1)) (omega (arith, h.1, h.2))).1 (h.0, h.1) in
+    ap (λ b. cond b (Some (fault.Damaged (damage.Cut area.Pages 0 4096 (length (header_bytes x))))) (option_map (damaged 0) (header_fault (header_bytes x)))) short
+    ∙ ap (λ v. option_map (damaged 0) v) right
+
+pub IsHeader-prop : (o : Option Header) → IsProp (IsHeader o)
+IsHeader-prop None = Unit-prop
+IsHeader-prop (Some h) = hlevel le_prop
