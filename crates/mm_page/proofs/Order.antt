@@ -6,14 +6,6 @@ use Rattle.mm_keeper.specs.Entries.{Entries, below, IsBelow, Rises, rank, has}
 use Rattle.mm_keeper.specs.Facts.Keys.{no_order, IsBelow-less}
 use Rattle.mm_page.specs.Limits.{AreWithin}
 
-pub AreWithin-app : (xs ys : Entries) → AreWithin xs → AreWithin ys → AreWithin (xs ++ ys)
-AreWithin-app [] ys h i = i
-AreWithin-app (e ∷ xs) ys h i = (h.0, h.1, h.2, AreWithin-app xs ys h.3 i)
-
-pub AreWithin-parts : (xs ys : Entries) → AreWithin (xs ++ ys) → AreWithin xs × AreWithin ys
-AreWithin-parts [] ys h = (tt, h)
-AreWithin-parts (e ∷ xs) ys h = ((h.0, h.1, h.2, (AreWithin-parts xs ys h.3).0), (AreWithin-parts xs ys h.3).1)
-
 pub IsBelow-insert : (a k v : List ℕ) (m : Entries) (i : ℕ) → below a k ≡ true → IsBelow a m → IsBelow a (insert m i (k, v))
 IsBelow-insert a k v [] zero h b = (h, tt)
 IsBelow-insert a k v [] (suc i) h b = (h, tt)

@@ -7,7 +7,7 @@ use Rattle.mm_page.specs.Leaf.{block, pasted, Stands, cells, entries_of, IsLeaf,
 use Rattle.mm_page.proofs.Blocks.{put-same, put-length, put-next}
 use Rattle.mm_page.proofs.Moves.{IsMoved, moved, leaf-parts}
 use Rattle.mm_keeper.specs.Facts.Keys.{Rises-parts}
-use Rattle.mm_page.proofs.Order.{AreWithin-parts}
+use Rattle.mm_page.specs.Facts.Sizes.{AreWithin-parts}
 
 -- the places of a split in front of cell i
 pub record IsSplitting (old : List ℕ) (i n at end : ℕ) : Type 0 where
