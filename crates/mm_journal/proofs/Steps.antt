@@ -314,6 +314,9 @@ append-settles gate a b d ps sealed c q h e f =
 pub at-settled : (j : JournalState) (a : AreaState) (q : IsAt j a) → j.is_begun ≡ true → IsSettled j.gate a q.found
 at-settled j a q b = record { closed = q.closed b; synced = q.synced }
 
+pub settled-here : (j : JournalState) (gate : ℕ) (a : AreaState) (q : IsAt j a) → gate ≡ j.gate → j.is_begun ≡ true → IsSettled gate a q.found
+settled-here j gate a q same b = subst (λ (k : ℕ). IsSettled k a q.found) (sym same) (at-settled j a q b)
+
 pub settled-at : (j : JournalState) (a : AreaState) (ps : List Payload) → j.is_begun ≡ true → IsSettled j.gate a ps → IsAt j a
 settled-at j a ps b q = record { found = ps; whole = closed-read j.gate a.now ps q.closed; synced = q.synced; closed = λ _. q.closed; blank = λ is. absurd (true≢false (sym b ∙ is)) }
 
