@@ -3,3 +3,4 @@ pub mod Children
 pub mod Gathering
 pub mod Marked
 pub mod Piling
+pub mod Owning

@@ -24,14 +24,14 @@ use Rattle.mm_tree.specs.Formed.{node_label}
 use Rattle.mm_tree.specs.Forests.{are_labelled, has_valid_kind, is_well_formed}
 use Rattle.mm_tree.specs.Numbering.{Labelled, has_room}
 use Rattle.mm_tree.specs.Search.{Worded, list_of, own, worded}
-use Rattle.mm_tree.specs.Trees.{Trees, none, node, every, preorder}
+use Rattle.mm_tree.specs.Trees.{Trees, every, preorder}
 use Rattle.mm_tree.specs.Validity.{is_valid_kind, piece_count}
 use Rattle.mm_image.specs.Content.{piece}
-use Rattle.mm_image.specs.Facts.Members.{listed_is, listed_label, own_label, own_within, words_are}
+use Rattle.mm_image.specs.Facts.Members.{node_is_valid, listed_is, listed_label, own_label, own_within, words_are}
 use Rattle.mm_image.specs.Image.{chunks, chunks_of, count_of, counts, image, occurrences, occurrences_of, words}
 use Rattle.mm_image.specs.Keys.{chunk_key, occurrence_key}
 use Rattle.mm_image.specs.Laws.{ImagesRise}
-use Rattle.mm_image.proofs.ChunkFacts.{few_pieces, first_valid, inner_valid, rest_valid}
+use Rattle.mm_image.proofs.ChunkFacts.{few_pieces}
 use Rattle.mm_image.specs.Facts.Keys.{no_zero}
 use Rattle.mm_image.specs.Facts.LabelOrder.{Ancestry, ByteOrder}
 use Rattle.mm_image.proofs.KeyOrder.{chunk_less, chunk_order, less_is, occurrence_order, word_less}
@@ -81,16 +81,6 @@ is_below k l e = ap is_lt e
 
 -- ---- the nodes
 
-kinds_are : (f : Trees Labelled) (d : Labelled) → every has_valid_kind f ≡ true → Within d (preorder f) → is_valid_kind d.kind ≡ true
-kinds_are none d v i = absurd i
-kinds_are (node e inner rest) d v i = elim i [
-  | inl h ↦ subst (λ (z : Labelled). is_valid_kind z.kind ≡ true) (sym h) (first_valid e inner rest v)
-  | inr h ↦ elim (within_joined d (preorder inner) (preorder rest) h) [
-    | inl m ↦ kinds_are inner d (inner_valid e inner rest v) m
-    | inr m ↦ kinds_are rest d (rest_valid e inner rest v) m
-  ]
-]
-
 abbrev Label : Type 0
 Label = List ℤ
 
@@ -110,7 +100,7 @@ nodes_of f w =
     let v = and_parts (every has_valid_kind f) _ r.1 in
     record {
       label = node_is_labelled f w;
-      kind = λ d i. kinds_are f d v.0 i;
+      kind = node_is_valid f v.0;
       order = preorder_rises node_label [] f (formed f w);
     }
 

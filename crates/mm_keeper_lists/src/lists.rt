@@ -118,7 +118,7 @@ impl<'a, K: Keeper> KeeperLists<'a, K> {
 }
 
 impl<K: Keeper> Lists for KeeperLists<'_, K> {
-    ghost use Rattle.mm_keeper_lists.specs.Inside.Grounds.{ground_itself, ground_along};
+    ghost use Rattle.mm_keeper_lists.specs.Facts.Grounds.{ground_itself, ground_along};
 
     ghost stands = { λ k f. HoldsImage K.has_maps K.seen k.keeper.now f };
 

@@ -135,3 +135,20 @@ at_found (d ∷ m) k r = by (below d.0 k) refl (at_found m k r.1)
     by : (b : Bool) → below d.0 k ≡ b → IsAt m k (entry_at m (index_of m k)) → IsAt (d ∷ m) k (entry_at (d ∷ m) (cond (cond b (has m k) (bytes_eq d.0 k)) (Some (cond b (suc (rank m k)) 0)) None))
     by true e h = under (has m k) e h
     by false e h = equal (bytes_eq d.0 k) refl e
+
+-- a key has one entry at most
+pub same_key : (m : Entries) (d e : Entry) → Rises m → Within d m → Within e m → d.0 ≡ e.0 → d ≡ e
+same_key [] d e r i j q = absurd i
+same_key (x ∷ m) d e r i j q = elim i [
+  | inl a ↦ elim j [
+    | inl b ↦ a ∙ sym b
+    | inr b ↦ let g = below_strictly x.0 m r.0 e b in absurd (below_itself x.0 (subst (λ (z : List ℕ). below x.0 z ≡ true) (sym q ∙ ap (λ (z : Entry). z.0) a) g))
+  ]
+  | inr a ↦ elim j [
+    | inl b ↦ let g = below_strictly x.0 m r.0 d a in absurd (below_itself x.0 (subst (λ (z : List ℕ). below x.0 z ≡ true) (q ∙ ap (λ (z : Entry). z.0) b) g))
+    | inr b ↦ same_key m d e r.1 a b q
+  ]
+]
+  where
+    below_itself : (k : List ℕ) → below k k ≡ true → ⊥
+    below_itself k h = below_not k k h (upto_refl k)
