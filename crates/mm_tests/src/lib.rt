@@ -13,6 +13,8 @@ mod fragments;
 #[cfg(test)]
 mod items;
 #[cfg(test)]
+mod journals;
+#[cfg(test)]
 mod keepers;
 #[cfg(test)]
 mod labels;
