@@ -1,6 +1,6 @@
 -- The difference of two maps leads from the one to the other, and is no more than that.
 use Rattle.std.proofs.Common.{◌≡◌, refl, ap, ◌∙◌, Bool, true, false}
-use Rattle.std.specs.Prelude.{Some, None, if◌then◌else◌, not, bytes_eq}
+use Rattle.std.specs.Prelude.{is_some, Some, None, if◌then◌else◌, not, bytes_eq}
 use Rattle.mm_label.specs.Fronts.{Within}
 use Rattle.mm_label.specs.Facts.Members.{within_in}
 use Rattle.mm_keeper.specs.Entries.{Entry, Entries, IsSorted, has, lookup}
@@ -8,7 +8,7 @@ use Rattle.mm_edit.specs.Difference.{Key, keys, is_value, holds, gone, changed, 
 use Rattle.mm_edit.specs.Inside.Finding.{find}
 use Rattle.mm_edit.specs.Laws.{DifferenceLeads, DifferenceIsApart, DifferenceRises, DifferenceIsLeast}
 use Rattle.mm_edit.proofs.Keys.{same}
-use Rattle.mm_edit.proofs.Lookups.{Value, is_some, has_is, lookup_is, same_entries, rises-put_all, rises-without_all, find-put_all, find-without_all}
+use Rattle.mm_edit.proofs.Lookups.{Value, has_is, lookup_is, same_entries, rises-put_all, rises-without_all, find-put_all, find-without_all}
 use Rattle.mm_edit.proofs.Filters.{each_found, each_within, filter_passes, rises-filter, keep, find-filter}
 
 pub difference_leads : DifferenceLeads

@@ -8,3 +8,5 @@ pub mod Values
 pub mod Fit
 pub mod Parts
 pub mod Editing
+pub mod Halving
+pub mod Telling

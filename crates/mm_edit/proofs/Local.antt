@@ -1,12 +1,12 @@
 -- Where two maps swap parts, their difference is that of the parts, and the parts tell the weight.
 use Rattle.std.proofs.Common.{◌≡◌, refl, ap, sym, ◌∙◌, Bool, true, false, ◌+◌, arith}
-use Rattle.std.specs.Prelude.{Some, None, if◌then◌else◌, not, ◌&&◌}
+use Rattle.std.specs.Prelude.{is_some, Some, None, if◌then◌else◌, not, ◌&&◌}
 use Rattle.mm_keeper.specs.Entries.{Entry, Entries, Rises, IsSorted, has, weight_of}
 use Rattle.mm_edit.specs.Difference.{Key, is_value, holds, gone, changed}
 use Rattle.mm_edit.specs.Inside.Finding.{find}
 use Rattle.mm_edit.specs.Inside.Swapping.{within_keys, outside_keys, Swaps}
 use Rattle.mm_edit.proofs.Keys.{same_self}
-use Rattle.mm_edit.proofs.Lookups.{Value, is_some, has_is, lookup_is}
+use Rattle.mm_edit.proofs.Lookups.{Value, has_is, lookup_is}
 use Rattle.mm_edit.proofs.Filters.{each_so, filter_same, filter_twice, rises-filter, keep, find-filter, each_found, weight_parts}
 
 -- ---- what the parts find

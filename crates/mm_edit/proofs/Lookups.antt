@@ -1,6 +1,6 @@
 -- Look-ups: in entries that rise each key stands once, and what puts and removes leave there.
 use Rattle.std.proofs.Common.{◌≡◌, refl, ap, sym, ◌∙◌, subst, Bool, true, false, ℕ, List, [], ◌∷◌}
-use Rattle.std.specs.Prelude.{Option, Some, None, if◌then◌else◌}
+use Rattle.std.specs.Prelude.{Option, Some, None, if◌then◌else◌, is_some}
 use Rattle.std.specs.Str.{bytes_eq}
 use Rattle.mm_keeper.specs.Entries.{Entry, Entries, below, IsBelow, Rises, has, lookup, put, without}
 use Rattle.mm_keeper.specs.Facts.Keys.{IsBelow-less, Rises-put, Rises-without, no_more, no_order}
@@ -10,10 +10,6 @@ use Rattle.mm_edit.proofs.Keys.{same, same_self, differs}
 
 abbrev pub Value : Type 0
 Value = Option (List ℕ)
-
-abbrev pub is_some : {A : Type 0} → Option A → Bool
-is_some None = false
-is_some (Some a) = true
 
 pub find_above : (k : Key) (m : Entries) → IsBelow k m → find m k ≡ None
 find_above k [] b = refl

@@ -1,6 +1,6 @@
 -- One run of nodes gives place to another: the maps swap the parts that are about these nodes.
 use Rattle.std.proofs.Common.{◌≡◌, refl, ap, sym, ◌∙◌, Bool, true, false, ℕ, ◌+◌, List, [], ◌∷◌, ◌++◌, arith}
-use Rattle.std.specs.Prelude.{Some, None, if◌then◌else◌, not, ◌||◌, nat_lt, ◌<◌}
+use Rattle.std.specs.Prelude.{is_some, Some, None, if◌then◌else◌, not, ◌||◌, nat_lt, ◌<◌}
 use Rattle.std.specs.Str.{bytes_eq}
 use Rattle.std.proofs.lemmas.Bool.Decides.{nat_tests}
 use Rattle.std.proofs.lemmas.Grind.{flat_map-append}
@@ -11,7 +11,7 @@ use Rattle.mm_edit.specs.Difference.{Key}
 use Rattle.mm_edit.specs.Inside.Finding.{find, has_key}
 use Rattle.mm_edit.specs.Inside.Swapping.{within_keys, outside_keys, Swaps}
 use Rattle.mm_edit.specs.Inside.Nodes.{brought, owned, tally, counted_as, or_else, value_at, IsMapOf, AreApart, IsFit, run_keys, IsPart}
-use Rattle.mm_edit.proofs.Lookups.{Value, is_some, has_key_is, same_entries}
+use Rattle.mm_edit.proofs.Lookups.{Value, has_key_is, same_entries}
 use Rattle.mm_edit.proofs.Filters.{rises-filter}
 use Rattle.mm_edit.proofs.Local.{among, find_within, find_outside_at}
 

@@ -2,6 +2,7 @@
 #![tactic(auto)]
 
 mod carrying;
+mod differing;
 pub mod laws;
 mod plan;
 
