@@ -6,7 +6,7 @@ use Rattle.mm_keeper.specs.Entries.{Entries, below, Rises, rank, lookup}
 use Rattle.mm_keeper.specs.Entries as keeper
 use Rattle.mm_keeper.specs.Facts.Blocked.{items_parted, rank_is}
 use Rattle.mm_image.specs.declared.entry.Entry.{Entry}
-use Rattle.mm_image.specs.Inside.Cutting.{keyed}
+use Rattle.mm_image.specs.Keyed.{keyed}
 use Rattle.mm_edit.specs.Difference.{Key}
 use Rattle.mm_edit.proofs.Lookups.{Value}
 

@@ -1,7 +1,7 @@
 //! How a plan is carried out.
 
 ghost use Rattle.std.specs.Prelude.{◌≡◌, ◌+◌, ◌≤◌, OnOk, length};
-ghost use Rattle.mm_image.specs.Inside.Cutting.{keyed};
+ghost use Rattle.mm_image.specs.Keyed.{keyed};
 ghost use Rattle.mm_keeper.specs.Entries.{Entries, IsSorted};
 ghost use Rattle.mm_keeper.specs.Keeping.{fault_of};
 ghost use Rattle.mm_edit.specs.Carrying.{Carries};

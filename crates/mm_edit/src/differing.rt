@@ -1,7 +1,7 @@
 //! The difference of two lists of entries in the order of their keys.
 
 ghost use Rattle.std.specs.Prelude.{◌≡◌, IfOk, option_map};
-ghost use Rattle.mm_image.specs.Inside.Cutting.{keyed};
+ghost use Rattle.mm_image.specs.Keyed.{keyed};
 ghost use Rattle.mm_keeper.specs.Entries.{IsSorted, has, lookup};
 ghost use Rattle.mm_edit.specs.Difference.{changed, gone, holds, keys};
 ghost use Rattle.mm_edit.specs.Plans.{AreSized};

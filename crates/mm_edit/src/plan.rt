@@ -1,7 +1,7 @@
 //! What an edit changes, and why there is no plan.
 
 ghost use Rattle.std.specs.Prelude.{◌≡◌};
-ghost use Rattle.mm_image.specs.Inside.Cutting.{keyed};
+ghost use Rattle.mm_image.specs.Keyed.{keyed};
 ghost use Rattle.mm_edit.specs.Plans.{AreSized};
 
 use mm_host::{Bytes, Fault};
@@ -27,7 +27,7 @@ pub struct Plan {
 }
 
 impl Model for Plan {
-    ghost use Rattle.mm_image.specs.Inside.Cutting.{keyed};
+    ghost use Rattle.mm_image.specs.Keyed.{keyed};
     ghost use Rattle.mm_edit.specs.Plans.{AreSized, Planned};
 
     ghost Value = { Planned };

@@ -5,7 +5,7 @@ use Rattle.mm_host.specs.declared.damage.Fault.{Fault}
 use Rattle.mm_host.specs.declared.damage.Fault.TheVariants.{DiskFault, Damaged, Spent, Memory}
 use Rattle.mm_label.specs.Fronts.{Within}
 use Rattle.mm_keeper.specs.Entries.{Entries}
-use Rattle.mm_fragment.specs.Stored.{BlamesNames}
+use Rattle.mm_fragment.specs.Inside.Stored.{BlamesNames}
 
 -- a damage of one of these nodes is one of them all
 blamed_more : (m : Entries) (x : List ℤ) (xs : List (List ℤ)) → Within x xs → (e : Fault) → BlamesNames m (x ∷ []) e → BlamesNames m xs e

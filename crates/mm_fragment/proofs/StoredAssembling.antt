@@ -23,7 +23,7 @@ use Rattle.mm_image.specs.Laws.{FirstPieceNames}
 use Rattle.mm_fragment.specs.Inside.Piling.{roots, shown_all}
 use Rattle.mm_fragment.specs.Matching.{matches_of, open_nodes}
 use Rattle.mm_fragment.specs.Showing.{named_in, shown_at}
-use Rattle.mm_fragment.specs.Stored.{BlamesNames, stored_name, stored_shown}
+use Rattle.mm_fragment.specs.Inside.Stored.{BlamesNames, stored_name, stored_shown}
 use Rattle.mm_fragment.proofs.Assembling.{assembled}
 use Rattle.mm_fragment.proofs.LinkMasks.{AreMasks}
 use Rattle.mm_fragment.proofs.LinkFragment.{kept_is_fragment}

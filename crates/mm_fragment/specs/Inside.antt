@@ -4,3 +4,4 @@ pub mod Gathering
 pub mod Marked
 pub mod Piling
 pub mod Owning
+pub mod Stored

@@ -3,4 +3,3 @@ pub mod Bound
 pub mod Showing
 pub mod Telling
 pub mod Inside
-pub mod Stored

@@ -4,8 +4,8 @@
 ghost use Rattle.std.specs.Prelude.{◌≡◌, ◌+◌, ◌≤◌, ◌<◌, ◌∷◌, [], Some, IfOk, IfErr, length, map, slice_get};
 ghost use Rattle.mm_fragment.specs.Inside.Owning.{Precedes};
 ghost use Rattle.mm_fragment.specs.Inside.Piling.{roots};
-ghost use Rattle.mm_fragment.specs.Stored.{BlamesNames, IsUndamaged, name_of_entry, stored_name, stored_shown};
-ghost use Rattle.mm_image.specs.Facts.Finding.{entry_at};
+ghost use Rattle.mm_fragment.specs.Inside.Stored.{BlamesNames, IsUndamaged, name_of_entry, stored_name, stored_shown};
+ghost use Rattle.mm_image.specs.Looking.{entry_at};
 ghost use Rattle.mm_keeper.specs.Entries.{index_of};
 ghost use Rattle.mm_keeper_lists.specs.Ground.{SameGround};
 ghost use Rattle.mm_label.specs.Fronts.{Ordered};

@@ -4,6 +4,7 @@ use Rattle.std.specs.Prelude.{slice_get, bytes_eq}
 use Rattle.std.proofs.lemmas.Slice.Eq.{bytes_eq-Decides}
 use Rattle.mm_label.specs.Fronts.{Within}
 use Rattle.mm_keeper.specs.Entries.{Entry, Entries, below, IsBelow, Rises, rank, has, last_to, one_before, index_of}
+use Rattle.mm_image.specs.Looking.{entry_at}
 use Rattle.mm_image.specs.Facts.Upto.{UpTo, not_below, below_not, below_upto, upto_refl, upto_trans, upto_antisym}
 
 -- the first entry at or above the key
@@ -20,11 +21,6 @@ IsDown m k (Some e) = Within e m × UpTo e.0 k × ((d : Entry) → Within d m �
 abbrev pub IsAt : Entries → List ℕ → Option Entry → Type 0
 IsAt m k None = (e : Entry) → Within e m → e.0 ≡ k → ⊥
 IsAt m k (Some e) = Within e m × (e.0 ≡ k)
-
--- the entry at a place, if there is one
-abbrev pub entry_at : Entries → Option ℕ → Option Entry
-entry_at m None = None
-entry_at m (Some i) = slice_get m i
 
 below_in : (k : List ℕ) (m : Entries) → IsBelow k m → (e : Entry) → Within e m → UpTo k e.0
 below_in k [] b e i = absurd i

@@ -1,5 +1,5 @@
 use Rattle.std.proofs.Common.{◌≡◌, ◌+◌, None, drop}
-use Rattle.mm_image.specs.Inside.Cutting.{keyed}
+use Rattle.mm_image.specs.Keyed.{keyed}
 use Rattle.mm_edit.specs.Carrying.{Carries}
 use Rattle.mm_edit.specs.Difference.{put_all}
 use Rattle.mm_edit.specs.Plans.{AreSized, HaveRoom}

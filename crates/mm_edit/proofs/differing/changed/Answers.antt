@@ -2,7 +2,7 @@ use Rattle.std.proofs.Common.{◌∙◌, ap, sym, ◌++◌, ◌∷◌, []}
 use Rattle.std.specs.Prelude.{if◌then◌else◌, not}
 use Rattle.std.specs.Vec.Iter.{into_iter_items}
 use Rattle.std.proofs.lemmas.List.{map-append}
-use Rattle.mm_image.specs.Inside.Cutting.{keyed}
+use Rattle.mm_image.specs.Keyed.{keyed}
 use Rattle.mm_edit.specs.Difference.{changed}
 use Rattle.mm_edit.proofs.Halving.{pair}
 use Rattle.mm_edit.proofs.Telling.{changed_more, one_less, sized_more}

@@ -1,6 +1,6 @@
 use Rattle.std.proofs.Common.{◌≡◌, ◌++◌, length}
 use Rattle.std.specs.Vec.Iter.{into_iter_items, into_iter_len}
-use Rattle.mm_image.specs.Inside.Cutting.{keyed}
+use Rattle.mm_image.specs.Keyed.{keyed}
 use Rattle.mm_keeper.specs.Entries.{IsSorted}
 use Rattle.mm_edit.specs.Difference.{changed}
 use Rattle.mm_edit.specs.Plans.{AreSized}

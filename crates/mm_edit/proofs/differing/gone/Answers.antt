@@ -2,7 +2,7 @@ use Rattle.std.proofs.Common.{◌≡◌, ◌∙◌, ap, sym, drop, ◌+◌, ◌+
 use Rattle.std.specs.Prelude.{if◌then◌else◌, not}
 use Rattle.mm_list.specs.Facts.{drop_at}
 use Rattle.mm_keeper.specs.Entries.{has}
-use Rattle.mm_image.specs.Inside.Cutting.{keyed}
+use Rattle.mm_image.specs.Keyed.{keyed}
 use Rattle.mm_edit.specs.Difference.{gone, keys}
 use Rattle.mm_edit.proofs.Halving.{pair}
 use Rattle.mm_edit.proofs.Telling.{gone_more}

@@ -1,5 +1,5 @@
 use Rattle.std.proofs.Common.{◌≡◌, ◌++◌, drop}
-use Rattle.mm_image.specs.Inside.Cutting.{keyed}
+use Rattle.mm_image.specs.Keyed.{keyed}
 use Rattle.mm_keeper.specs.Entries.{IsSorted}
 use Rattle.mm_edit.specs.Difference.{gone, keys}
 use Rattle.mm_edit.proofs.differing.gone.Given as goal

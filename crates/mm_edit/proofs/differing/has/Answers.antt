@@ -1,6 +1,6 @@
 use Rattle.std.proofs.Common.{◌∙◌}
 use Rattle.std.specs.Prelude.{option_map}
-use Rattle.mm_image.specs.Inside.Cutting.{keyed}
+use Rattle.mm_image.specs.Keyed.{keyed}
 use Rattle.mm_edit.proofs.Telling.{has_value, some_same}
 use Rattle.mm_edit.proofs.differing.has.Goals as goal
 

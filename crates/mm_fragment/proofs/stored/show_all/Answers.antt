@@ -9,7 +9,7 @@ use Rattle.mm_keeper.specs.Keeping.{Seen}
 use Rattle.mm_keeper_lists.specs.Facts.Grounds.{ground_along}
 use Rattle.mm_tree.specs.Trees.{Tree}
 use Rattle.mm_tree.specs.Fragments.{Named}
-use Rattle.mm_fragment.specs.Stored.{stored_shown}
+use Rattle.mm_fragment.specs.Inside.Stored.{stored_shown}
 use Rattle.mm_fragment.proofs.ShowAll.{showing_more}
 use Rattle.mm_fragment.proofs.Naming.{blamed_among}
 use Rattle.mm_fragment.proofs.stored.show_all.Goals as goal

@@ -3,7 +3,7 @@ use Rattle.mm_keeper_lists.specs.Ground.{SameGround}
 use Rattle.mm_label.specs.Fronts.{Ordered, Within}
 use Rattle.mm_match.specs.declared.mark.Mark.{Mark}
 use Rattle.mm_fragment.specs.Inside.Owning.{Precedes}
-use Rattle.mm_fragment.specs.Stored.{stored_shown}
+use Rattle.mm_fragment.specs.Inside.Stored.{stored_shown}
 use Rattle.mm_fragment.proofs.ShowAll.{Showing}
 use Rattle.mm_fragment.proofs.stored.show_all.Given as goal
 

@@ -7,7 +7,7 @@ use Rattle.mm_tree.specs.declared.fragment.Fragment.{Fragment}
 use Rattle.mm_tree.specs.Trees.{none}
 use Rattle.mm_tree.specs.Fragments.{Named, fragment, fragment_tree}
 use Rattle.mm_keeper.specs.Keeping.{Seen}
-use Rattle.mm_fragment.specs.Stored.{BlamesNames, stored_shown}
+use Rattle.mm_fragment.specs.Inside.Stored.{BlamesNames, stored_shown}
 use Rattle.mm_fragment.specs.Inside.Owning.{Precedes}
 use Rattle.mm_fragment.specs.Showing.{named_in, shown_at}
 use Rattle.mm_fragment.proofs.LinkMasks.{AreMasks}

@@ -8,7 +8,7 @@ use Rattle.mm_match.specs.declared.mark.Mark.{Mark}
 use Rattle.mm_keeper.specs.Entries.{Entry, Entries, index_of}
 use Rattle.mm_image.specs.Content.{name_in}
 use Rattle.mm_image.specs.Keys.{chunk_key}
-use Rattle.mm_image.specs.Facts.Finding.{entry_at}
+use Rattle.mm_image.specs.Looking.{entry_at}
 use Rattle.mm_tree.specs.Fragments.{Named}
 use Rattle.mm_fragment.specs.Inside.Owning.{marked_words}
 
