@@ -1,6 +1,8 @@
 pub mod Keys
 pub mod Content
 pub mod Image
+pub mod Looking
+pub mod Keyed
 pub mod Laws
 pub mod Examples
 pub mod Inside
