@@ -25,6 +25,8 @@ mod matches;
 #[cfg(test)]
 mod pages;
 #[cfg(test)]
+mod stored;
+#[cfg(test)]
 mod trees;
 #[cfg(test)]
 mod words;
