@@ -17,4 +17,8 @@ pub mod LinkFragment
 pub mod LinkTells
 pub mod Rounds
 pub mod Assembling
+pub mod Owned
+pub mod StoredShown
+pub mod Naming
+pub mod StoredAssembling
 pub mod Words

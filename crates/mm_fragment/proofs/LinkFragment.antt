@@ -65,7 +65,7 @@ rebuilt_is query y t show r v u h some m =
 
 -- ---- where there is none
 
-no_marks : (root : Label) (r : List Mark) → AreMasks root [] r → r ≡ []
+pub no_marks : (root : Label) (r : List Mark) → AreMasks root [] r → r ≡ []
 no_marks root [] m = refl
 no_marks root (k ∷ r) m = absurd ((m.on_path k.label).0 (inl refl)).above
 
@@ -82,14 +82,14 @@ nothing_marked query y t u e = no_rows (marked query t.1) (λ m i.
     (are_matches query t m.entry.label (record { word = k.word; asked = k.asked; holder = k.holder; listed = inr k.listed; holds = k.holds; low = k.low })))
 
 -- a match at all is one at or below the root
-root_meets : (query : List Word) (y : Label) (t : Tree Named) (m : Mark) (ms : List Mark) → Formed name_label y (one t) → matches_at query t ≡ m ∷ ms → Meets t.0.label (labels (matches_at query t))
+pub root_meets : (query : List Word) (y : Label) (t : Tree Named) (m : Mark) (ms : List Mark) → Formed name_label y (one t) → matches_at query t ≡ m ∷ ms → Meets t.0.label (labels (matches_at query t))
 root_meets query y t m ms u e =
     let k = matches_are query t [] (subst (λ (l : List Mark). Meets [] (labels l)) (sym e) (inl tt)) in
     are_matches query t t.0.label (record { word = k.word; asked = k.asked; holder = k.holder; listed = k.listed; holds = k.holds; low = open_below query y t k.holder u k.listed })
 
 -- ---- in a forest
 
-named_in_forest : (f : Trees Labelled) (e : Named) → Within e (preorder (named f)) → (d : Labelled) × Within d (preorder f) × (e ≡ named_as d)
+pub named_in_forest : (f : Trees Labelled) (e : Named) → Within e (preorder (named f)) → (d : Labelled) × Within d (preorder f) × (e ≡ named_as d)
 named_in_forest f e w = within_in named_as e (preorder f) (subst (Within e) (preorder_each named_as f) w)
 
 -- what a fragment shows of a node is told by the node's label

@@ -63,7 +63,7 @@ map_in f a [] w = absurd w
 map_in f a (x ∷ xs) w = elim w [ inl e ↦ inl (ap f e) | inr k ↦ inr (map_in f a xs k) ]
 
 -- a node of the marked ones, as a mark and back
-of_coded : (f : Trees Rowed) (m : Mark) → Within m (preorder (coded f)) → (k : Rowed) × Within k (preorder f) × (m ≡ mark_of k)
+pub of_coded : (f : Trees Rowed) (m : Mark) → Within m (preorder (coded f)) → (k : Rowed) × Within k (preorder f) × (m ≡ mark_of k)
 of_coded f m w = in_map mark_of m (preorder f) (subst (Within m) (preorder_each mark_of f) w)
 
 to_coded : (f : Trees Rowed) (k : Rowed) → Within k (preorder f) → Within (mark_of k) (preorder (coded f))
@@ -75,7 +75,7 @@ coded_formed query y f u = each_formed mark_of at y (marked query f) (marked_for
 tree_formed : (query : List Word) (y : Label) (t : Tree Named) → Formed name_label y (one t) → Formed at y (marked_tree query t)
 tree_formed query y t u = (u.0, coded_formed query t.0.label t.1 u.1, tt, tt)
 
-open_is : (query : List Word) (t : Tree Named) → open_nodes query t ≡ t.0 ∷ preorder (cleared query t.1)
+pub open_is : (query : List Word) (t : Tree Named) → open_nodes query t ≡ t.0 ∷ preorder (cleared query t.1)
 open_is query t = ap (λ (r : List Named). t.0 ∷ r) (outside_is query t.1)
 
 pub open_below : (query : List Word) (y : Label) (t : Tree Named) (e : Named) → Formed name_label y (one t) → Within e (t.0 ∷ preorder (cleared query t.1)) → Front t.0.label e.label

@@ -65,7 +65,7 @@ thins_itself : {A : Type 0} (f : Trees A) → Thins f f
 thins_itself none = refl
 thins_itself (node a inner rest) = inr (inner, rest, refl, thins_itself inner, thins_itself rest)
 
-cleared_thins : (query : List (List ℕ)) (f : Trees Named) → Thins (cleared query f) f
+pub cleared_thins : (query : List (List ℕ)) (f : Trees Named) → Thins (cleared query f) f
 cleared_thins query none = refl
 cleared_thins query (node e inner rest) = by (is_full query (bare e) (bares inner)) (cleared_thins query rest)
   where

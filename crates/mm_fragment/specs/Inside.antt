@@ -3,3 +3,5 @@ pub mod Children
 pub mod Gathering
 pub mod Marked
 pub mod Piling
+pub mod Owning
+pub mod Stored

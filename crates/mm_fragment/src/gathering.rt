@@ -78,7 +78,7 @@ fn gather<X: Lists, L: Ledger>(
 }
 
 /// The next bit. After the last bit there is none.
-fn doubled(bit: u32) -> u32
+pub fn doubled(bit: u32) -> u32
     ensures { bit < 2 ^ 31 → result ≡ bit + bit }
 {
     bit.wrapping_add(bit)

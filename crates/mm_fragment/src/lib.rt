@@ -8,7 +8,11 @@ mod calls;
 mod children;
 mod gathering;
 pub mod laws;
+mod owning;
 mod rebuilding;
 mod showing;
+mod stored;
+mod stored_calls;
 
 pub use calls::fragment;
+pub use stored_calls::stored_fragment;

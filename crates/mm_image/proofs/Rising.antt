@@ -24,14 +24,14 @@ use Rattle.mm_tree.specs.Formed.{node_label}
 use Rattle.mm_tree.specs.Forests.{are_labelled, has_valid_kind, is_well_formed}
 use Rattle.mm_tree.specs.Numbering.{Labelled, has_room}
 use Rattle.mm_tree.specs.Search.{Worded, list_of, own, worded}
-use Rattle.mm_tree.specs.Trees.{Trees, none, node, every, preorder}
+use Rattle.mm_tree.specs.Trees.{Trees, every, preorder}
 use Rattle.mm_tree.specs.Validity.{is_valid_kind, piece_count}
 use Rattle.mm_image.specs.Content.{piece}
-use Rattle.mm_image.specs.Facts.Members.{listed_is, listed_label, own_label, own_within, words_are}
-use Rattle.mm_image.specs.Image.{chunks, chunks_of, count_of, counts, image, occurrences, occurrences_of, words}
+use Rattle.mm_image.specs.Facts.Members.{node_is_valid, listed_is, own_label, own_within, words_are}
+use Rattle.mm_image.specs.Image.{chunks, chunks_of, count_of, counts, entries_of, image, occurrences, occurrences_of, words}
 use Rattle.mm_image.specs.Keys.{chunk_key, occurrence_key}
 use Rattle.mm_image.specs.Laws.{ImagesRise}
-use Rattle.mm_image.proofs.ChunkFacts.{few_pieces, first_valid, inner_valid, rest_valid}
+use Rattle.mm_image.proofs.ChunkFacts.{few_pieces}
 use Rattle.mm_image.specs.Facts.Keys.{no_zero}
 use Rattle.mm_image.specs.Facts.LabelOrder.{Ancestry, ByteOrder}
 use Rattle.mm_image.proofs.KeyOrder.{chunk_less, chunk_order, less_is, occurrence_order, word_less}
@@ -81,16 +81,6 @@ is_below k l e = ap is_lt e
 
 -- ---- the nodes
 
-pub kinds_are : (f : Trees Labelled) (d : Labelled) → every has_valid_kind f ≡ true → Within d (preorder f) → is_valid_kind d.kind ≡ true
-kinds_are none d v i = absurd i
-kinds_are (node e inner rest) d v i = elim i [
-  | inl h ↦ subst (λ (z : Labelled). is_valid_kind z.kind ≡ true) (sym h) (first_valid e inner rest v)
-  | inr h ↦ elim (within_joined d (preorder inner) (preorder rest) h) [
-    | inl m ↦ kinds_are inner d (inner_valid e inner rest v) m
-    | inr m ↦ kinds_are rest d (rest_valid e inner rest v) m
-  ]
-]
-
 abbrev Label : Type 0
 Label = List ℤ
 
@@ -110,7 +100,7 @@ nodes_of f w =
     let v = and_parts (every has_valid_kind f) _ r.1 in
     record {
       label = node_is_labelled f w;
-      kind = λ d i. kinds_are f d v.0 i;
+      kind = node_is_valid f v.0;
       order = preorder_rises node_label [] f (formed f w);
     }
 
@@ -145,6 +135,11 @@ list_ascends w f n = subst Ascends (sym (listed_is w f)) (
     (λ e i. own_ascends w e)
     (λ a b p q s u v x y. subst (λ (z : Label). Lt z v) (sym (own_within w a u x)) (subst (Lt a.label) (sym (own_within w b v y)) s)))
 
+listed_node : (w : Word) (f : Trees Labelled) → Nodes f → (m : Label) → Within m (list_of w (worded f)) → IsLabel m
+listed_node w f n m h =
+    let t = within_flat (own_label w) m (preorder f) (subst (Within m) (listed_is w f) h) in
+    subst IsLabel (sym (own_within w t.0 m t.2)) (n.label t.0 t.1)
+
 -- ---- words
 
 all_within : (P : Word → Type 0) (ws : List Word) → AllByRecursion P ws → (v : Word) → Within v ws → P v
@@ -156,16 +151,16 @@ unfolding IsStrictlySortedBy
 sorted_ordered [] s = tt
 sorted_ordered (w ∷ ws) s = (λ v h. all_within (Above w) ws s.0 v h, sorted_ordered ws s.1)
 
-words_rise : (nodes : Trees Worded) → Ordered Above (words nodes)
+pub words_rise : (nodes : Trees Worded) → Ordered Above (words nodes)
 words_rise nodes = sorted_ordered (words nodes) (in_order_rises (flat_map (λ e. e.words) (preorder nodes)))
 
 -- ---- occurrences and counts
 
-occurrences_rise : ByteOrder → (f : Trees Labelled) → IsTrue (is_well_formed f) → Nodes f → Ordered Before (occurrences (worded f))
-occurrences_rise order f g n = ordered_flat Above Before (occurrences_of (worded f)) (words (worded f)) (words_rise (worded f))
+occurrences_rise : ByteOrder → (f : Trees Labelled) → Nodes f → Ordered Before (occurrences (worded f))
+occurrences_rise order f n = ordered_flat Above Before (occurrences_of (worded f)) (words (worded f)) (words_rise (worded f))
     (λ w i. ordered_map (λ (m : Label). (occurrence_key w m, [])) Before (list_of w (worded f)) (
     ordered_with Lt (λ a b. Before (occurrence_key w a, []) (occurrence_key w b, [])) (list_of w (worded f)) (λ a b p q s.
-    is_below (occurrence_key w a) (occurrence_key w b) (one_word w a b (words_are f w i) (listed_label w f g a p) (listed_label w f g b q) (lt_before a b s)))
+    is_below (occurrence_key w a) (occurrence_key w b) (one_word w a b (words_are f w i) (listed_node w f n a p) (listed_node w f n b q) (lt_before a b s)))
     (list_ascends w f n)))
     (λ v w p q s x y k l.
     let t = within_in (λ (m : Label). (occurrence_key v m, [])) x (list_of v (worded f)) k in
@@ -182,7 +177,7 @@ counts_rise nodes = ordered_map (count_of nodes) Before (words nodes) (ordered_w
 -- ---- one run after the other
 
 -- what begins with less stands before
-headed : (a b : ℕ) (k l : List ℕ) → a < b → below (a ∷ k) (b ∷ l) ≡ true
+pub headed : (a b : ℕ) (k l : List ℕ) → a < b → below (a ∷ k) (b ∷ l) ≡ true
 headed a b k l h = ap is_lt (ap (λ o. ordering_then o (slice_cmp nat_cmp k l)) (less_is a b h))
 
 abbrev pub Headed : ℕ → Entry → Type 0
@@ -206,10 +201,16 @@ counts_headed nodes e h = let r = within_in (count_of nodes) e (words nodes) h i
 apart : (a b : ℕ) (d e : Entry) → a < b → Headed a d → Headed b e → Before d e
 apart a b d e l h k = subst (λ (z : List ℕ). below z e.0 ≡ true) (sym h.1) (subst (λ (z : List ℕ). below (a ∷ h.0) z ≡ true) (sym k.1) (headed a b h.0 k.0 l))
 
+-- what trees bring stands in the order of the keys, wherever the trees stand
+pub entries_rise : ByteOrder → Ancestry → (f : Trees Labelled) → Nodes f → Rises (entries_of f)
+entries_rise order ancestry f n =
+    rises (entries_of f) (ordered_joined Before (chunks f) (occurrences (worded f)) (chunks_rise order ancestry f n) (occurrences_rise order f n)
+    (λ u r p q. apart 1 2 u r (omega arith) (chunks_headed f u p) (occurrences_headed (worded f) r q)))
+
 pub images_rise : ByteOrder → Ancestry → ImagesRise
 images_rise order ancestry f w =
     let n = nodes_of f w in
-    let later = ordered_joined Before (occurrences (worded f)) (counts (worded f)) (occurrences_rise order f w n) (counts_rise (worded f))
+    let later = ordered_joined Before (occurrences (worded f)) (counts (worded f)) (occurrences_rise order f n) (counts_rise (worded f))
     (λ u r p q. apart 2 3 u r (omega arith) (occurrences_headed (worded f) u p) (counts_headed (worded f) r q)) in
     record {
       rises = rises (image f) (ordered_joined Before (chunks f) (occurrences (worded f) ++ counts (worded f)) (chunks_rise order ancestry f n) later

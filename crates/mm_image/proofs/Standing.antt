@@ -33,7 +33,7 @@ use Rattle.mm_image.specs.Inside.Placing.{fits_place, is_placed}
 use Rattle.mm_image.specs.Inside.Running.{TreeAt}
 use Rattle.mm_image.proofs.Determined.{OneLabel}
 use Rattle.mm_image.proofs.Groups.{nodes_gathered, same_groups, same_nodes, stored_groups}
-use Rattle.mm_image.proofs.Rising.{kinds_are}
+use Rattle.mm_image.specs.Facts.Members.{node_is_valid}
 use Rattle.mm_image.proofs.Trees.{level_joined, rebuilt_nodes}
 
 -- ---- labelled siblings are formed
@@ -115,7 +115,7 @@ stored_kind [] s d w = absurd w
 stored_kind (e ∷ es) s d w = elim w [ inl h ↦ subst (λ (z : Labelled). is_valid_kind z.kind ≡ true) (sym h) s.1 | inr h ↦ stored_kind es s.2 d h ]
 
 pub stored_tree : (label : List ℤ) (t : Tree Labelled) → IsLabel label → Stands label t → CanBeStored (preorder (one t))
-stored_tree label t g s = stored_of (preorder (one t)) labels (λ d w. kinds_are (one t) d s.kinds w)
+stored_tree label t g s = stored_of (preorder (one t)) labels (λ d w. node_is_valid (one t) s.kinds d w)
   where
     labels : (d : Labelled) → Within d (preorder (one t)) → IsLabel d.label
     labels d w = elim w [

@@ -2,6 +2,8 @@ pub mod Keys
 pub mod Content
 pub mod Fields
 pub mod Image
+pub mod Looking
+pub mod Keyed
 pub mod Laws
 pub mod Examples
 pub mod Subtrees

@@ -11,7 +11,8 @@ ghost use Rattle.mm_tree.specs.Search.{worded};
 ghost use Rattle.mm_tree.specs.Trees.{every, one};
 ghost use Rattle.mm_tree.specs.Validity.{is_valid_kind};
 ghost use Rattle.mm_image.specs.Image.{chunks, chunks_of, counted, entries_of};
-ghost use Rattle.mm_image.specs.Inside.Cutting.{keyed, listed, numbered};
+ghost use Rattle.mm_image.specs.Inside.Cutting.{listed, numbered};
+ghost use Rattle.mm_image.specs.Keyed.{keyed};
 
 use crate::content::pieces_of;
 use crate::entry::{Entries, Entry};

@@ -12,7 +12,8 @@ use Rattle.mm_keeper.specs.Keeping.{Seen, Written}
 use Rattle.mm_image.specs.Keys.{count_key}
 use Rattle.mm_image.specs.Laws.{CountsAreLengths}
 use Rattle.mm_image.specs.Image.{image}
-use Rattle.mm_image.specs.Facts.Finding.{entry_at, IsUp, IsDown, IsAt}
+use Rattle.mm_image.specs.Facts.Finding.{IsUp, IsDown, IsAt}
+use Rattle.mm_image.specs.Looking.{entry_at}
 use Rattle.mm_keeper_lists.specs.Found.{Tells, Blames, TellsCount, BlamesCount}
 use Rattle.mm_image.specs.Ground.{SameGround, HoldsImage}
 use Rattle.mm_keeper_lists.proofs.Searching.{unbroken_count}

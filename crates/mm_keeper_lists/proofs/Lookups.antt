@@ -12,7 +12,8 @@ use Rattle.mm_tree.specs.Forests.{is_well_formed}
 use Rattle.mm_lists.specs.Causes.{IsSound}
 use Rattle.mm_keeper.specs.Entries.{Entry, Entries, IsSorted, rank, within, first_from, last_to, index_of}
 use Rattle.mm_image.specs.Image.{image}
-use Rattle.mm_image.specs.Facts.Finding.{entry_at, IsUp, IsDown, IsAt, up_found, down_found, at_found}
+use Rattle.mm_image.specs.Facts.Finding.{IsUp, IsDown, IsAt, up_found, down_found, at_found}
+use Rattle.mm_image.specs.Looking.{entry_at}
 use Rattle.mm_image.specs.Facts.Members.{occurrence_of, listed_label}
 use Rattle.mm_keeper_lists.specs.Found.{Blames}
 

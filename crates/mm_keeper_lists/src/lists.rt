@@ -2,7 +2,7 @@
 
 ghost use Rattle.std.specs.Prelude.{◌≡◌, ◌+◌, ◌∷◌, ◌++◌, [], refl, IfOk, length};
 ghost use Rattle.std.proofs.Common.{◌∙◌};
-ghost use Rattle.mm_image.specs.Facts.Finding.{entry_at};
+ghost use Rattle.mm_image.specs.Looking.{entry_at};
 ghost use Rattle.mm_keeper.specs.Entries.{first_from, index_of, last_to};
 ghost use Rattle.mm_keeper_lists.specs.Found.{ReadsLabel, ReadsCount};
 ghost use Rattle.mm_keeper_lists.specs.Ranges.{range_key};

@@ -1,7 +1,7 @@
 mod Blocks
 mod Order
 mod Reading
-mod Rows
+pub mod Rows
 mod Writing
 mod Moves
 mod Setting
@@ -9,4 +9,4 @@ mod Splitting
 mod Linking
 mod SlotFacts
 mod Finding
-mod Valid
+pub mod Valid

@@ -1,5 +1,5 @@
 -- The order and the lengths of a changed list of entries.
-use Rattle.std.proofs.Common.{◌≡◌, ℕ, zero, suc, ◌≤◌, Bool, true, false, cond, List, [], ◌∷◌, ◌++◌, length, refl}
+use Rattle.std.proofs.Common.{◌≡◌, ℕ, zero, suc, ◌≤◌, Bool, true, false, cond, List, [], ◌∷◌, length, refl}
 use Rattle.std.specs.Str.{bytes_eq}
 use Rattle.std.specs.List.{insert, remove}
 use Rattle.mm_keeper.specs.Entries.{Entries, below, IsBelow, Rises, rank, has}

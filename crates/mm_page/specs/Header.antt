@@ -1,5 +1,5 @@
 -- Page 0: the head of a paged store.
-use Rattle.std.specs.Prelude.{ℕ, ◌^◌, ◌==◌, ◌++◌, List, drop, replicate, Option, None, if◌then◌else◌, nat_lt}
+use Rattle.std.specs.Prelude.{ℕ, ◌^◌, ◌==◌, ◌++◌, List, drop, replicate, Option, Some, None, if◌then◌else◌, nat_lt}
 use Rattle.byteorder.specs.Endian.{big_number, big_bytes}
 use Rattle.mm_page.specs.Rules.{broken}
 use Rattle.mm_page.specs.declared.header.Header.{Header}
@@ -23,3 +23,8 @@ header_fault bytes =
 -- the bytes of a header: mark, number of pages, first leaf, and 00 behind them
 abbrev pub header_bytes : Header → List ℕ
 header_bytes h = ((big_bytes 8 mark ++ big_bytes 8 h.pages) ++ big_bytes 8 h.first) ++ replicate 4072 0
+
+-- how many pages a header counts, none where there is none
+abbrev pub pages_in : Option Header → ℕ
+pages_in None = 0
+pages_in (Some h) = h.pages

@@ -26,7 +26,7 @@ in_use b = record { head = b.shelf.head; page = λ n. if b.used n then b.shelf.p
 -- What a crash leaves of a shelf: page 0 as it is, and each page of which all bytes are there.
 pub record IsLeft (kept left : Shelf) : Type 0 where
   pub head : left.head ≡ kept.head
-  pub page : (n : ℕ) → length (kept.page n) ≡ 4096 → left.page n ≡ kept.page n
+  pub page : (n : ℕ) → 4096 ≤ length (kept.page n) → left.page n ≡ kept.page n
 
 -- all pages but this one are as before
 pub record ChangesOnly (n : ℕ) (old new : Book) : Type 0 where

@@ -3,6 +3,7 @@ ghost use Rattle.std.specs.Prelude.{◌≡◌, ◌≤◌, ◌<◌, ◌+◌, ◌^
 ghost use Rattle.std.specs.List.{list_any};
 ghost use Rattle.mm_page.specs.declared.slot.Kept.TheVariants.{Free};
 ghost use Rattle.mm_page.specs.Facts.Heading.{IsHeader-prop};
+ghost use Rattle.mm_page.specs.Header.{pages_in};
 ghost use Rattle.mm_page.specs.Slots.{AreAlike, IsApart, no_slot, slot_at, kept_page, IsHeader};
 
 use crate::header::Header;
@@ -121,6 +122,7 @@ pub struct MemPages {
     slots: Vec<Slot>,
     ghost few: { length slots.items < 2 ^ 43 },
     ghost right: { IsHeader header } by { IsHeader-prop header },
+    ghost counted: { pages_in header ≤ length slots.items + 1 },
 }
 
 impl MemPages {
@@ -242,6 +244,10 @@ impl Pages for MemPages {
 
     fn tick(&mut self, _pages: u32) -> Result<(), Fault> {
         Ok(())
+    }
+
+    fn is_spent(&self) -> bool {
+        false
     }
 
     fn faults(&self) -> u64 {

@@ -64,6 +64,7 @@ impl Page {
         ensures entries { IfOk result (λ p. entries_of p ≡ []) }
         ensures next { IfOk result (λ p. next_of p ≡ 0) }
         ensures tidy { IfOk result (λ p. IsTidy p) }
+        ensures leaf { IfOk result (λ p. IsLeaf p) }
     {
         let mut bytes = [0; 4096];
         make_empty(&mut bytes);
@@ -81,7 +82,8 @@ impl Page {
 
     /// The bytes of the page.
     pub fn bytes(&self) -> &[u8; 4096]
-        ensures { result.now ≡ self.now }
+        ensures bytes { result.now ≡ self.now }
+        ensures leaf { IsLeaf self.now }
     {
         &self.bytes
     }
@@ -98,20 +100,23 @@ impl Page {
         ensures entries { entries_of self.new ≡ entries_of self.old }
         ensures next { next_of self.new ≡ next }
         ensures bytes { self.new ≡ pasted self.old 4 (big_bytes 8 next) }
+        ensures leaf { IsLeaf self.new }
     {
         set_next_in(&mut *self.bytes, next);
     }
 
     /// How many entries there are.
     pub fn len(&self) -> usize
-        ensures { result ≡ length (entries_of self.now) }
+        ensures length { result ≡ length (entries_of self.now) }
+        ensures leaf { IsLeaf self.now }
     {
         read_two(&*self.bytes, 2)
     }
 
     /// How many bytes are free for further entries, of which each takes 6 more than its key and value.
     pub fn room(&self) -> usize
-        ensures { result + size (entries_of self.now) ≡ 4080 }
+        ensures room { result + size (entries_of self.now) ≡ 4080 }
+        ensures leaf { IsLeaf self.now }
     {
         room_in(&*self.bytes)
     }
@@ -128,6 +133,7 @@ impl Page {
     pub fn find(&self, key: &[u8]) -> Result<usize, usize>
         ensures found { IfOk result (λ i. (i ≡ rank (entries_of self.now) key.now) × (has (entries_of self.now) key.now ≡ true)) }
         ensures missing { IfErr result (λ i. (i ≡ rank (entries_of self.now) key.now) × (has (entries_of self.now) key.now ≡ false)) }
+        ensures leaf { IsLeaf self.now }
     {
         find_in(&*self.bytes, key)
     }
@@ -143,6 +149,7 @@ impl Page {
         ensures entries { entries_of self.new ≡ insert (entries_of self.old) index (key.now, value.now) }
         ensures next { next_of self.new ≡ next_of self.old }
         ensures tidy { IsTidy self.new }
+        ensures leaf { IsLeaf self.new }
     {
         insert_in(&mut *self.bytes, index, key, value);
     }
@@ -155,6 +162,7 @@ impl Page {
         ensures entries { entries_of self.new ≡ revalued (entries_of self.old) index value.now }
         ensures next { next_of self.new ≡ next_of self.old }
         ensures tidy { IsTidy self.new }
+        ensures leaf { IsLeaf self.new }
     {
         set_in(&mut *self.bytes, index, value);
     }
@@ -165,6 +173,7 @@ impl Page {
         ensures entries { entries_of self.new ≡ remove (entries_of self.old) index }
         ensures next { next_of self.new ≡ next_of self.old }
         ensures tidy { IsTidy self.new }
+        ensures leaf { IsLeaf self.new }
     {
         remove_in(&mut *self.bytes, index);
     }
@@ -176,9 +185,11 @@ impl Page {
         ensures entries { entries_of self.new ≡ take index (entries_of self.old) }
         ensures next { next_of self.new ≡ next_of self.old }
         ensures tidy { IsTidy self.new }
+        ensures leaf { IsLeaf self.new }
         ensures fresh_entries { entries_of fresh.new ≡ drop index (entries_of self.old) }
         ensures fresh_next { next_of fresh.new ≡ next_of fresh.old }
         ensures fresh_tidy { IsTidy fresh.new }
+        ensures fresh_leaf { IsLeaf fresh.new }
     {
         copy_tail(&*self.bytes, index, &mut *fresh.bytes);
         truncate(&mut *self.bytes, index);

@@ -8,8 +8,8 @@ ghost use Rattle.mm_host.specs.Moments.{LeavesOnly};
 ghost use Rattle.mm_host.specs.declared.damage.Damage.{Damage};
 ghost use Rattle.mm_keeper.specs.Keeping.{Written, Keeps, fault_of};
 ghost use Rattle.mm_keeper.specs.Lending.{lend_fault_of};
-ghost use Rattle.mm_page.specs.Header.{header_of, header_bytes};
-ghost use Rattle.mm_page.specs.Leaf.{entries_of, next_of};
+ghost use Rattle.mm_page.specs.Header.{header_of, header_bytes, pages_in};
+ghost use Rattle.mm_page.specs.Leaf.{IsLeaf, entries_of, next_of};
 ghost use Rattle.mm_page.specs.Paging.{Shelf, Book, Rests, IsLeft, ChangesOnly, in_use, page_damage, head_damage, but_damage};
 
 use crate::header::Header;
@@ -70,6 +70,7 @@ pub trait Pages {
     fn header(&mut self) -> Result<Option<Header>, Fault>
         requires { is_sound self.old }
         ensures header { has_pages self.old → IfOk result (λ h. h ≡ option_map header_of (book self.old).shelf.head) }
+        ensures counted { IfOk result (λ h. pages_in h ≤ count self.old) }
         ensures right { has_pages self.old → OnOk result (head_damage (book self.old).shelf.head ≡ None) }
         ensures damage { has_pages self.old → (d : Damage) → fault_of result ≡ Some (Fault.Damaged d) → head_damage (book self.old).shelf.head ≡ Some (Fault.Damaged d) }
         ensures same { (has_pages self.old → book self.new ≡ book self.old) × (count self.new ≡ count self.old) }
@@ -136,6 +137,7 @@ pub trait Pages {
         ensures changes { has_pages self.old → IfOk result (λ n. ChangesOnly n (book self.old) (book self.new)) }
         ensures free { has_pages self.old → IfOk result (λ n. (book self.old).used n ≡ false) }
         ensures used { has_pages self.old → IfOk result (λ n. (book self.new).used n ≡ true) }
+        ensures leaf { has_pages self.old → IfOk result (λ n. IsLeaf ((book self.new).shelf.page n)) }
         ensures empty { has_pages self.old → IfOk result (λ n. (entries_of ((book self.new).shelf.page n) ≡ []) × (next_of ((book self.new).shelf.page n) ≡ 0)) }
         ensures failed { OnErr result ((has_pages self.old → book self.new ≡ book self.old) × (count self.new ≡ count self.old)) }
         ensures rests { Rests tells has_pages kept written batch moment left_since 1 self.old self.new }
@@ -178,6 +180,10 @@ pub trait Pages {
         ensures causes { OnErr result (Rose (fault_count self.old) (fault_count self.new) ⊎ Rose (want_count self.old) (want_count self.new) ⊎ (is_spent self.old ≡ true)) }
         ensures memory { IsErrOf result Fault.Memory → Rose (want_count self.old) (want_count self.new) }
         ensures keeps { Keeps over has_pages is_sound is_spent fault_count want_count true self.old self.new (fault_of result) };
+
+    /// Whether an earlier call failed, after which each further one answers `Spent`.
+    fn is_spent(&self) -> bool
+        ensures { result ≡ is_spent self.now };
 
     /// How often the disk below has failed; without a disk 0.
     fn faults(&self) -> u64

@@ -3,6 +3,7 @@
 ghost use Rattle.std.specs.Prelude.{◌≡◌, ◌<◌};
 
 use crate::documents::{BIBLIOGRAPHY, NOTES, copies, have_texts};
+use crate::stored::stored_answers;
 use mm_host::Fault;
 use mm_label::Label;
 use mm_list::Items;
@@ -65,6 +66,21 @@ fn exclusive_are(
     Ok(plain.as_slice() == fast.as_slice() && have_texts(alloc, fast.as_slice(), due)?)
 }
 
+/// Whether both searches over a keeper's entries find what is due.
+fn stored_are(
+    alloc: Global,
+    forest: &Forest,
+    query: &Query,
+    smallest: &[&str],
+    exclusive: &[&str],
+) -> Result<bool, Fail> {
+    let (low, own) = stored_answers::<Brand>(alloc, Blank::new(1), forest, query)?;
+    Ok(
+        have_texts(alloc, low.as_slice(), smallest)?
+            && have_texts(alloc, own.as_slice(), exclusive)?,
+    )
+}
+
 /// So many copies of a document, a query, the labels of its smallest answers and those of its exclusive ones.
 type Case = (
     &'static str,
@@ -109,14 +125,15 @@ const TABLE: [Case; 8] = [
     ),
 ];
 
-/// Whether all four searches find what is due.
+/// Whether all six searches find what is due.
 fn agrees(alloc: Global, case: &Case) -> Result<bool, Fail> {
     let (document, times, text, smallest, exclusive) = *case;
     let forest = copies(alloc, document, times)?;
     let query = query(alloc, text)?;
     Ok(
         smallest_are(alloc, &forest, &query, smallest)?
-            && exclusive_are(alloc, &forest, &query, exclusive)?,
+            && exclusive_are(alloc, &forest, &query, exclusive)?
+            && stored_are(alloc, &forest, &query, smallest, exclusive)?,
     )
 }
 

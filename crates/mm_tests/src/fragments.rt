@@ -3,6 +3,7 @@
 ghost use Rattle.std.specs.Prelude.{◌≡◌, ◌<◌};
 
 use crate::documents::{GUARDS, NOTES, PLAYERS, load};
+use crate::stored::stored_gathered;
 use mm_fragment::fragment;
 use mm_host::Fault;
 use mm_label::Label;
@@ -88,6 +89,14 @@ fn found(alloc: Global, forest: &Forest, root: &str, text: &str) -> Result<Vec<u
     Ok(lines(alloc, shown)?)
 }
 
+/// The fragment out of a keeper's entries.
+fn stored(alloc: Global, forest: &Forest, root: &str, text: &str) -> Result<Vec<u8>, Fail> {
+    let query = query(alloc, text)?;
+    let root = Label::parse(alloc, root)?;
+    let shown = stored_gathered::<Brand>(alloc, Blank::new(1), forest, &root, &query)?;
+    Ok(lines(alloc, shown)?)
+}
+
 /// The fragment that the plain walk makes.
 fn plainly(alloc: Global, forest: &Forest, root: &str, text: &str) -> Result<Vec<u8>, Fail> {
     let query = query(alloc, text)?;
@@ -127,6 +136,7 @@ fn fragments_are_those_of_the_plain_walk(rt: HostRuntime) -> Result<(), Fail> {
     let forest = loaded(rt.alloc())?;
     for (root, text, due) in TABLE {
         assert!(rt; found(rt.alloc(), &forest, root, text)?.as_slice() == due.as_bytes());
+        assert!(rt; stored(rt.alloc(), &forest, root, text)?.as_slice() == due.as_bytes());
         assert!(rt; plainly(rt.alloc(), &forest, root, text)?.as_slice() == due.as_bytes());
     }
     Ok(())

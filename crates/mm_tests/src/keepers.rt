@@ -20,12 +20,17 @@ fn set(map: &mut SortedMap, key: &[u8], value: &[u8]) -> Result<Option<Item>, Al
 
 // Puts an entry into a small keeper.
 #[tactic(auto, using(mm_keeper::specs::Facts::InRange::put_weighs))]
-fn put<K: Keeper, L: Ledger>(keeper: &mut K, key: &[u8], value: &[u8], steps: &mut Steps<L>) -> bool
+pub fn put<K: Keeper, L: Ledger>(
+    keeper: &mut K,
+    key: &[u8],
+    value: &[u8],
+    steps: &mut Steps<L>,
+) -> bool
     requires { K.is_sound keeper.old }
     ensures sound { K.is_sound keeper.new }
     ensures maps { K.has_maps keeper.old ↔ K.has_maps keeper.new }
 {
-    let is_small = keeper.weight() <= 1000 && key.len() <= 100 && value.len() <= 100;
+    let is_small = keeper.weight() <= 100_000 && key.len() <= 800 && value.len() <= 1024;
     if key.is_empty() || !is_small {
         return false;
     }

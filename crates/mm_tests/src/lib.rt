@@ -11,7 +11,11 @@ mod documents;
 #[cfg(test)]
 mod fragments;
 #[cfg(test)]
+mod image;
+#[cfg(test)]
 mod items;
+#[cfg(test)]
+mod journals;
 #[cfg(test)]
 mod keepers;
 #[cfg(test)]
@@ -22,6 +26,8 @@ mod lists;
 mod matches;
 #[cfg(test)]
 mod pages;
+#[cfg(test)]
+mod stored;
 #[cfg(test)]
 mod trees;
 #[cfg(test)]

@@ -4,6 +4,7 @@ use Rattle.std.specs.Prelude.{slice_get, bytes_eq}
 use Rattle.std.proofs.lemmas.Slice.Eq.{bytes_eq-Decides}
 use Rattle.mm_label.specs.Fronts.{Within}
 use Rattle.mm_keeper.specs.Entries.{Entry, Entries, below, IsBelow, Rises, rank, has, last_to, one_before, index_of}
+use Rattle.mm_image.specs.Looking.{entry_at}
 use Rattle.mm_image.specs.Facts.Upto.{UpTo, not_below, below_not, below_upto, upto_refl, upto_trans, upto_antisym}
 
 -- the first entry at or above the key
@@ -20,11 +21,6 @@ IsDown m k (Some e) = Within e m × UpTo e.0 k × ((d : Entry) → Within d m �
 abbrev pub IsAt : Entries → List ℕ → Option Entry → Type 0
 IsAt m k None = (e : Entry) → Within e m → e.0 ≡ k → ⊥
 IsAt m k (Some e) = Within e m × (e.0 ≡ k)
-
--- the entry at a place, if there is one
-abbrev pub entry_at : Entries → Option ℕ → Option Entry
-entry_at m None = None
-entry_at m (Some i) = slice_get m i
 
 below_in : (k : List ℕ) (m : Entries) → IsBelow k m → (e : Entry) → Within e m → UpTo k e.0
 below_in k [] b e i = absurd i
@@ -135,3 +131,20 @@ at_found (d ∷ m) k r = by (below d.0 k) refl (at_found m k r.1)
     by : (b : Bool) → below d.0 k ≡ b → IsAt m k (entry_at m (index_of m k)) → IsAt (d ∷ m) k (entry_at (d ∷ m) (cond (cond b (has m k) (bytes_eq d.0 k)) (Some (cond b (suc (rank m k)) 0)) None))
     by true e h = under (has m k) e h
     by false e h = equal (bytes_eq d.0 k) refl e
+
+-- a key has one entry at most
+pub same_key : (m : Entries) (d e : Entry) → Rises m → Within d m → Within e m → d.0 ≡ e.0 → d ≡ e
+same_key [] d e r i j q = absurd i
+same_key (x ∷ m) d e r i j q = elim i [
+  | inl a ↦ elim j [
+    | inl b ↦ a ∙ sym b
+    | inr b ↦ let g = below_strictly x.0 m r.0 e b in absurd (below_itself x.0 (subst (λ (z : List ℕ). below x.0 z ≡ true) (sym q ∙ ap (λ (z : Entry). z.0) a) g))
+  ]
+  | inr a ↦ elim j [
+    | inl b ↦ let g = below_strictly x.0 m r.0 d a in absurd (below_itself x.0 (subst (λ (z : List ℕ). below x.0 z ≡ true) (q ∙ ap (λ (z : Entry). z.0) b) g))
+    | inr b ↦ same_key m d e r.1 a b q
+  ]
+]
+  where
+    below_itself : (k : List ℕ) → below k k ≡ true → ⊥
+    below_itself k h = below_not k k h (upto_refl k)

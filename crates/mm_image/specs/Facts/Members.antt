@@ -1,7 +1,8 @@
 -- What stands in the image of a forest: each node of a word's list, each word's count, and nothing else in their ranges.
-use Rattle.std.proofs.Common.{inl, inr, ◌≡◌, ◌⊎◌, ℕ, ℤ, Bool, true, false, cond, IsTrue, List, [], ◌∷◌, ◌++◌, refl, ap, sym, subst, ◌∙◌}
+use Rattle.std.proofs.Common.{map, inl, inr, ◌≡◌, ◌⊎◌, ℕ, ℤ, zero, suc, ◌≤◌, arith, Bool, true, false, cond, IsTrue, List, [], ◌∷◌, ◌++◌, refl, ap, sym, subst, ◌∙◌}
 use Rattle.std.specs.Prelude.{bytes_eq, flat_map}
-use Rattle.std.specs.List.{list_any}
+use Rattle.std.specs.List.{list_any, range_with_len}
+use Rattle.std.proofs.lemmas.Bool.{and_parts}
 use Rattle.std.proofs.lemmas.Grind.{flat_map-append}
 use Rattle.std.proofs.lemmas.Slice.Eq.{bytes_eq-Decides}
 use Rattle.mm_list.specs.Facts.{flat_map_mapped}
@@ -12,15 +13,19 @@ use Rattle.mm_label.specs.Facts.Lists.{within_own}
 use Rattle.mm_label.specs.Facts.Members.{within_first, within_second, within_joined, within_flat, flat_within, within_in, in_within, any_found}
 use Rattle.mm_words.specs.Words.{is_word}
 use Rattle.mm_keeper.specs.Entries.{Entry, below}
-use Rattle.mm_tree.specs.Trees.{Trees, none, node, preorder}
-use Rattle.mm_tree.specs.Forests.{is_well_formed}
+use Rattle.mm_tree.specs.Trees.{Trees, none, node, every, has_some, preorder}
+use Rattle.mm_tree.specs.Forests.{has_valid_kind, is_well_formed}
 use Rattle.mm_tree.specs.Numbering.{Labelled}
 use Rattle.mm_tree.specs.Search.{Worded, has, list_of, own, worded, worded_as}
+use Rattle.mm_tree.specs.declared.plain.Kind.{Kind}
+use Rattle.mm_tree.specs.declared.plain.Kind.TheVariants.{Element, Words}
+use Rattle.mm_tree.specs.Validity.{is_valid_kind, piece_count}
+use Rattle.mm_image.specs.Content.{piece}
 use Rattle.mm_tree.specs.Facts.Labels.{node_is_labelled}
 use Rattle.mm_tree.specs.Facts.Places.{preorder_each}
 use Rattle.mm_tree.specs.Facts.Words.{own_word}
 use Rattle.mm_image.specs.Image.{chunks, chunks_of, count_of, counts, image, in_order, occurrences, occurrences_of, with_word, words}
-use Rattle.mm_image.specs.Keys.{count_key, occurrence_key}
+use Rattle.mm_image.specs.Keys.{chunk_key, count_key, occurrence_key}
 use Rattle.mm_image.specs.Facts.Keys.{no_zero, same_word}
 
 abbrev Label : Type 0
@@ -156,3 +161,33 @@ count_is w e f h k = elim (within_joined e (chunks f) (occurrences (worded f) ++
     | inr p ↦ let u = within_in (count_of (worded f)) e (words (worded f)) p in let s = u.2 in let t : u.0 ≡ w = cc in s ∙ ap (count_of (worded f)) t
   ]
 ]
+
+-- ---- the first piece of a node
+
+-- the kinds of a well-formed forest are valid
+pub node_is_valid : (f : Trees Labelled) → every has_valid_kind f ≡ true → (d : Labelled) → Within d (preorder f) → is_valid_kind d.kind ≡ true
+node_is_valid none v d i = absurd i
+node_is_valid (node e inner rest) v d i =
+    let a = and_parts (has_valid_kind e (has_some inner)) _ v in
+    let b = and_parts (every has_valid_kind inner) _ a.1 in
+    elim i [
+      | inl h ↦ subst (λ (z : Labelled). is_valid_kind z.kind ≡ true) (sym h) (and_parts (is_valid_kind e.kind) _ a.0).0
+      | inr h ↦ elim (within_joined d (preorder inner) (preorder rest) h) [
+        | inl m ↦ node_is_valid inner b.0 d m
+        | inr m ↦ node_is_valid rest b.1 d m
+      ]
+    ]
+
+piece_there : (kind : Kind) → 1 ≤ piece_count kind
+piece_there (Element name attributes) = omega arith
+piece_there (Words text) = omega arith
+
+first_of_range : {X : Type 0} (g : ℕ → X) (n : ℕ) → 1 ≤ n → Within (g 0) (map g (range_with_len 0 n))
+first_of_range g zero h = absurd (omega (arith, h))
+first_of_range g (suc n) h = inl refl
+
+-- each node has its first piece
+pub chunk_in : (f : Trees Labelled) (d : Labelled) → Within d (preorder f) → Within (chunk_key d.label 0, piece d.kind 0) (image f)
+chunk_in f d i =
+    within_first (chunk_key d.label 0, piece d.kind 0) (chunks f) (occurrences (worded f) ++ counts (worded f))
+    (flat_within chunks_of d (chunk_key d.label 0, piece d.kind 0) (preorder f) i (first_of_range (λ n. (chunk_key d.label n, piece d.kind n)) (piece_count d.kind) (piece_there d.kind)))

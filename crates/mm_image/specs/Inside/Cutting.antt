@@ -2,7 +2,6 @@
 use Rattle.std.specs.Prelude.{ℕ, ◌+◌, ◌*◌, ◌/◌, ◌≡◌, ℤ, List, [], ◌∷◌, ◌++◌, length, map, take, drop}
 use Rattle.std.specs.List.{range_with_len}
 use Rattle.mm_keeper.specs.Entries.{Entries}
-use Rattle.mm_image.specs.declared.entry.Entry.{Entry}
 use Rattle.mm_image.specs.Keys.{chunk_key, occurrence_key}
 use Rattle.mm_image.specs.Content.{piece_limit}
 
@@ -23,10 +22,6 @@ pieces_of bytes = map (λ i. take piece_limit (drop (piece_limit * i) bytes)) (r
 abbrev pub numbered : List ℤ → ℕ → List (List ℕ) → Entries
 numbered label i [] = []
 numbered label i (p ∷ ps) = (chunk_key label i, p) ∷ numbered label (i + 1) ps
-
--- the program's entries as keys and values
-abbrev pub keyed : List Entry → Entries
-keyed es = map (λ e. (e.key, e.value)) es
 
 -- the entries of a word and the nodes that hold it
 abbrev pub listed : List ℕ × List (List ℤ) → Entries

@@ -5,7 +5,7 @@ use Rattle.mm_tree.specs.Forests.{has_valid_kind}
 use Rattle.mm_tree.specs.Numbering.{Labelled, forest_of}
 use Rattle.mm_tree.specs.Trees.{Trees, node, every}
 use Rattle.mm_image.specs.Image.{chunks}
-use Rattle.mm_image.specs.Inside.Cutting.{keyed}
+use Rattle.mm_image.specs.Keyed.{keyed}
 use Rattle.mm_tree.specs.Facts.Walks.{forest_at}
 use Rattle.mm_image.proofs.ChunkFacts.{chunks_more, one_valid, rest_valid}
 use Rattle.mm_image.proofs.bringing.+push_all_chunks.Goals as goal

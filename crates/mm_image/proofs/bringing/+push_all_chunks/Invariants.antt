@@ -3,7 +3,7 @@ use Rattle.mm_tree.specs.Forests.{has_valid_kind}
 use Rattle.mm_tree.specs.Numbering.{forest_of}
 use Rattle.mm_tree.specs.Trees.{every}
 use Rattle.mm_image.specs.Image.{chunks}
-use Rattle.mm_image.specs.Inside.Cutting.{keyed}
+use Rattle.mm_image.specs.Keyed.{keyed}
 use Rattle.mm_image.proofs.bringing.+push_all_chunks.Given as goal
 
 abbrev pub invariant-loop-node : goal.invariant-loop-node

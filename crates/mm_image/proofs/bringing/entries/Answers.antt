@@ -6,7 +6,8 @@ use Rattle.mm_tree.specs.Numbering.{forest_of}
 use Rattle.mm_tree.specs.Search.{worded}
 use Rattle.mm_image.specs.declared.entry.Entry.{Entry}
 use Rattle.mm_image.specs.Image.{chunks, occurrences}
-use Rattle.mm_image.specs.Inside.Cutting.{keyed, listed}
+use Rattle.mm_image.specs.Inside.Cutting.{listed}
+use Rattle.mm_image.specs.Keyed.{keyed}
 use Rattle.mm_image.proofs.Listing.{all_listed}
 use Rattle.mm_image.proofs.bringing.entries.Goals as goal
 

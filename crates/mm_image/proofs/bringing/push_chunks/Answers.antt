@@ -1,6 +1,7 @@
 use Rattle.std.proofs.Common.{◌≤◌, ◌++◌, ◌∙◌, List, ℕ, ap, length, subst, sym}
 use Rattle.mm_keeper.specs.Entries.{Entries}
-use Rattle.mm_image.specs.Inside.Cutting.{keyed, numbered}
+use Rattle.mm_image.specs.Inside.Cutting.{numbered}
+use Rattle.mm_image.specs.Keyed.{keyed}
 use Rattle.mm_image.proofs.Results.{on_ok}
 use Rattle.mm_image.proofs.ChunkFacts.{pieces_few, valid_parts, chunks_are}
 use Rattle.mm_image.proofs.bringing.push_chunks.Goals as goal

@@ -1,6 +1,7 @@
 use Rattle.std.proofs.Common.{◌≡◌, ◌++◌, ◌+◌, length}
 use Rattle.std.specs.Vec.Iter.{into_iter_items, into_iter_len}
-use Rattle.mm_image.specs.Inside.Cutting.{keyed, numbered}
+use Rattle.mm_image.specs.Inside.Cutting.{numbered}
+use Rattle.mm_image.specs.Keyed.{keyed}
 use Rattle.mm_image.proofs.bringing.push_pieces.Given as goal
 
 abbrev pub invariant-loop-value : goal.invariant-loop-value

@@ -1,0 +1,12 @@
+pub mod Keys
+pub mod Lookups
+pub mod Filters
+pub mod Leading
+pub mod Local
+pub mod Runs
+pub mod Values
+pub mod Fit
+pub mod Parts
+pub mod Editing
+pub mod Halving
+pub mod Telling

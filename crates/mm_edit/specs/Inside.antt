@@ -1,0 +1,5 @@
+-- What proofs alone need.
+pub mod Finding
+pub mod Swapping
+pub mod Nodes
+pub mod Counting

@@ -1,0 +1,28 @@
+-- What a plan says, and what it asks of a keeper.
+use Rattle.std.specs.Prelude.{◌≤◌, List, [], ◌∷◌, length}
+use Rattle.mm_keeper.specs.Entries.{Entry, Entries, HasRoom, put}
+use Rattle.mm_tree.specs.declared.forest.Done.{Done}
+use Rattle.mm_edit.specs.Difference.{Key, without_all}
+
+-- What a plan says: what the edit does, the keys to be removed, and the entries to be put.
+pub record Planned : Type 0 where
+  pub done : Done
+  pub removes : List Key
+  pub puts : Entries
+
+-- a keeper takes keys and values of these lengths
+abbrev pub IsSized : Entry → Type 0
+IsSized e = (1 ≤ length e.0) × (length e.0 ≤ 800) × (length e.1 ≤ 1024)
+
+abbrev pub AreSized : Entries → Type 0
+AreSized [] = Unit {0}
+AreSized (e ∷ es) = IsSized e × AreSized es
+
+-- each of these puts has room in the map that the ones before it leave
+abbrev pub HaveRoom : Entries → Entries → Type 0
+HaveRoom m [] = Unit {0}
+HaveRoom m (e ∷ es) = HasRoom m e.0 e.1 × HaveRoom (put m e.0 e.1) es
+
+-- the plan's puts have room in the map, once its removes are done
+abbrev pub HasRoomFor : Entries → Planned → Type 0
+HasRoomFor m plan = HaveRoom (without_all plan.removes m) plan.puts

@@ -1,0 +1,10 @@
+//! Edits as plans: what an edit removes from a keeper's map and puts into it, and how that is carried out.
+#![tactic(auto)]
+
+mod carrying;
+mod differing;
+pub mod laws;
+mod plan;
+
+pub use carrying::carry_out;
+pub use plan::{EditError, Plan};

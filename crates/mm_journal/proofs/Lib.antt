@@ -1,0 +1,3 @@
+mod Walking
+mod Steps
+mod Calls

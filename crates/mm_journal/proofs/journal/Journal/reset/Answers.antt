@@ -1,0 +1,34 @@
+use Rattle.std.proofs.Common.{◌≡◌, [], false, true, ap, ◌∙◌}
+use Rattle.mm_host.specs.Facts.Moments.{weakened}
+use Rattle.mm_journal.specs.Settled.{JournalState, ResetLeaves}
+use Rattle.mm_journal.proofs.Steps.{gate-shut, at-settled, settled-at, settled-leaves, all-or-none}
+use Rattle.mm_journal.proofs.journal.Journal.reset.Goals as goal
+
+pub returns-in_err-write_synced-clause-any_moment : goal.returns-in_err-write_synced-clause-any_moment
+returns-in_err-write_synced-clause-any_moment g c = λ told.
+    let s = g.D.Disk.state c.args.disk.now in
+    let j = c.args.self.now in
+    let place = c.requires.place told in
+    weakened g.D.Disk.moment g.D.Disk.left_since c.args.disk.now c.write_synced.new.disk _ (ResetLeaves s) (c.in_err-write_synced.ensures.any_moment told)
+    (λ i left. all-or-none j.gate s place.found i c.requires.holds_a_record (at-settled j s.journal place c.requires.begun) left)
+
+pub returns-clause-any_moment : goal.returns-clause-any_moment
+returns-clause-any_moment g c = λ told.
+    let s = g.D.Disk.state c.args.disk.now in
+    let j = c.args.self.now in
+    let place = c.requires.place told in
+    weakened g.D.Disk.moment g.D.Disk.left_since c.args.disk.now c.write_synced.new.disk _ (ResetLeaves s) (c.in_ok-write_synced.ensures.any_moment told)
+    (λ i left. all-or-none j.gate s place.found i c.requires.holds_a_record (at-settled j s.journal place c.requires.begun) left)
+
+pub returns-clause-at : goal.returns-clause-at
+returns-clause-at g c = λ told.
+    let s = g.D.Disk.state c.args.disk.now in
+    let s1 = g.D.Disk.state c.write_synced.new.disk in
+    let begun : c.self.inside.is_begun ≡ true = ap (λ (j : JournalState). j.is_begun) c.self.view_is ∙ c.requires.begun in
+    settled-at (record { gate = 0; is_begun = c.self.inside.is_begun; has_failed = false }) s1.journal [] begun (gate-shut s.journal s1.journal (c.in_ok-write_synced.ensures.ok told))
+
+pub returns-clause-none : goal.returns-clause-none
+returns-clause-none g c = λ told i may.
+    let s = g.D.Disk.state c.args.disk.now in
+    let s1 = g.D.Disk.state c.write_synced.new.disk in
+    settled-leaves 0 s1 [] i (gate-shut s.journal s1.journal (c.in_ok-write_synced.ensures.ok told)) may

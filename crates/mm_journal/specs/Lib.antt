@@ -1,0 +1,5 @@
+pub mod Records
+pub mod Settled
+pub mod Inside
+pub mod Facts
+pub mod Examples

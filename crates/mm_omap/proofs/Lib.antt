@@ -1,0 +1,11 @@
+mod Pieces
+mod Chains
+mod Changes
+mod Walks
+mod Puts
+mod Splices
+mod Standing
+mod Running
+mod Seeking
+mod Booking
+mod Taking
