@@ -8,7 +8,7 @@ use Rattle.mm_image.specs.Laws.{KeysAreApart}
 use Rattle.mm_image.specs.Facts.Keys.{no_zero, same_word}
 use Rattle.mm_image.proofs.KeyFacts.{same_front}
 
-same_number : (m n : ℕ) → m < 4294967296 → n < 4294967296 → big_bytes 4 m ≡ big_bytes 4 n → m ≡ n
+pub same_number : (m n : ℕ) → m < 4294967296 → n < 4294967296 → big_bytes 4 m ≡ big_bytes 4 n → m ≡ n
 same_number m n h k e =
     let p : m / 16777216 % 256 ≡ n / 16777216 % 256 = cc in
     let q : m / 65536 % 256 ≡ n / 65536 % 256 = cc in

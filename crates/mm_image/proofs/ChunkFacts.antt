@@ -81,7 +81,7 @@ content_sized (Words text) = omega arith
 pub count_is : (kind : Kind) → (length (content kind) + 999) / 1000 ≡ piece_count kind
 count_is kind = ap (λ (n : ℕ). (n + 999) / 1000) (sym (content_sized kind))
 
-length_mapped : {X : Type 0} (f : ℕ → X) (n a : ℕ) → length (map f (range_with_len a n)) ≡ n
+pub length_mapped : {X : Type 0} (f : ℕ → X) (n a : ℕ) → length (map f (range_with_len a n)) ≡ n
 length_mapped f zero a = refl
 length_mapped f (suc n) a = ap suc (length_mapped f n (a + 1))
 

@@ -88,7 +88,7 @@ same_attributes (a ∷ cs) (b ∷ bs) h k e =
     let rest = same_attributes cs bs p.1 q.1 valued.1 in
     λ i. record { name = named.0 i; value = valued.0 i } ∷ rest i
 
-same_content : (k j : Kind) → is_valid_kind k ≡ true → is_valid_kind j ≡ true → content k ≡ content j → k ≡ j
+pub same_content : (k j : Kind) → is_valid_kind k ≡ true → is_valid_kind j ≡ true → content k ≡ content j → k ≡ j
 same_content (Words t) (Words u) h g e = let p : t ≡ u = cc in cc
 same_content (Words t) (Element n cs) h g e = let p : ◌≡◌ {A = ℕ} 84 69 = ap (λ (z : List ℕ). get_or z 0 0) e in absurd (omega arith)
 same_content (Element n cs) (Words t) h g e = let p : ◌≡◌ {A = ℕ} 69 84 = ap (λ (z : List ℕ). get_or z 0 0) e in absurd (omega arith)
@@ -129,21 +129,21 @@ joined_from b (suc n) a =
     ∙ (ap (λ (z : List ℕ). take piece_limit here ++ take (piece_limit * n) z) (ap (λ (k : ℕ). drop k b) p ∙ sym (drop_drop piece_limit (piece_limit * a) b))
     ∙ (take_more_of piece_limit (piece_limit * n) here ∙ ap (λ (k : ℕ). take k here) q))
 
-joined : (b : List ℕ) → join (pieces_of b) ≡ b
+pub joined : (b : List ℕ) → join (pieces_of b) ≡ b
 joined b = joined_from b ((length b + 999) / 1000) 0 ∙ take_all (piece_limit * ((length b + 999) / 1000)) b (omega arith)
 
 values_are : (label : List ℤ) (f : ℕ → List ℕ) (n a : ℕ) → map (λ (e : Entry). e.1) (map (λ i. (chunk_key label i, f i)) (range_with_len a n)) ≡ map f (range_with_len a n)
 values_are label f zero a = refl
 values_are label f (suc n) a = ap (λ z. f a ∷ z) (values_are label f n (a + 1))
 
-content_told : (e : Labelled) → join (map (λ (x : Entry). x.1) (chunks_of e)) ≡ content e.kind
+pub content_told : (e : Labelled) → join (map (λ (x : Entry). x.1) (chunks_of e)) ≡ content e.kind
 content_told e =
     ap join (values_are e.label (piece e.kind) (piece_count e.kind) 0 ∙ ap (λ (n : ℕ). map (piece e.kind) (range_with_len 0 n)) (sym (count_is e.kind)))
     ∙ joined (content e.kind)
 
 -- ---- nodes
 
-abbrev OneLabel : Type 0
+abbrev pub OneLabel : Type 0
 OneLabel = (a b : List ℤ) → IsLabel a → IsLabel b → bytes_of a ≡ bytes_of b → a ≡ b
 
 key_label : OneLabel → (a b : List ℤ) (m n : ℕ) → IsLabel a → IsLabel b → chunk_key a m ≡ chunk_key b n → a ≡ b
@@ -151,15 +151,15 @@ key_label one a b m n g h e =
     let t : bytes_of a ++ (0 ∷ big_bytes 4 m) ≡ bytes_of b ++ (0 ∷ big_bytes 4 n) = cc in
     one a b g h (same_front (bytes_of a) (bytes_of b) (0 ∷ big_bytes 4 m) (0 ∷ big_bytes 4 n) t refl).0
 
-some_size : (k : Kind) → 1 ≤ content_size k
+pub some_size : (k : Kind) → 1 ≤ content_size k
 some_size (Element n cs) = omega arith
 some_size (Words t) = omega arith
 
-some_pieces : (k : Kind) → 1 ≤ piece_count k
+pub some_pieces : (k : Kind) → 1 ≤ piece_count k
 some_pieces k = let t = some_size k in omega arith
 
 -- the first chunk of a node
-first_chunk : (e : Labelled) → Within {A = Entry} (chunk_key e.label 0, piece e.kind 0) (chunks_of e)
+pub first_chunk : (e : Labelled) → Within {A = Entry} (chunk_key e.label 0, piece e.kind 0) (chunks_of e)
 first_chunk e = at_least (piece_count e.kind) (some_pieces e.kind)
   where
     at_least : (n : ℕ) → 1 ≤ n → Within {A = Entry} (chunk_key e.label 0, piece e.kind 0) (map (λ i. (chunk_key e.label i, piece e.kind i)) (range_with_len 0 n))
@@ -169,10 +169,10 @@ first_chunk e = at_least (piece_count e.kind) (some_pieces e.kind)
 first_within : (e : Labelled) (es : List Labelled) → Within {A = Entry} (chunk_key e.label 0, piece e.kind 0) (flat_map chunks_of (e ∷ es))
 first_within e es = within_first (chunk_key e.label 0, piece e.kind 0) (chunks_of e) (flat_map chunks_of es) (first_chunk e)
 
-abbrev OfLabel : List ℤ → Entry → Type 0
+abbrev pub OfLabel : List ℤ → Entry → Type 0
 OfLabel l x = (i : ℕ) × (x.0 ≡ chunk_key l i)
 
-chunk_of : (e : Labelled) (x : Entry) → Within x (chunks_of e) → OfLabel e.label x
+pub chunk_of : (e : Labelled) (x : Entry) → Within x (chunks_of e) → OfLabel e.label x
 chunk_of e x w = let t = within_range (λ i. (chunk_key e.label i, piece e.kind i)) x (piece_count e.kind) 0 w in (t.0, ap (λ (z : Entry). z.0) t.3)
 
 record Listed (es : List Labelled) : Type 0 where
@@ -191,7 +191,7 @@ later one e es l x w o =
     let s : e.label ≡ (t.0).label = key_label one e.label (t.0).label o.0 c.0 (l.label e (inl refl)) (l.label t.0 (inr t.1)) (sym o.1 ∙ c.1) in
     (l.order.0 t.0 t.1).1 s
 
-abbrev first_key : Entries → List ℕ
+abbrev pub first_key : Entries → List ℕ
 first_key [] = []
 first_key (x ∷ xs) = x.0
 

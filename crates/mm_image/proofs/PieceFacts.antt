@@ -40,7 +40,7 @@ abbrev cut : List ℕ → ℕ → List ℕ
 cut bytes i = take piece_limit (drop (piece_limit * i) bytes)
 
 -- a full piece and what stands behind it
-one_more : (p r : List ℕ) → length p ≡ piece_limit → pieces_of (p ++ r) ≡ p ∷ pieces_of r
+pub one_more : (p r : List ℕ) → length p ≡ piece_limit → pieces_of (p ++ r) ≡ p ∷ pieces_of r
 one_more p r e =
     let first : take piece_limit (p ++ r) ≡ p = ap (λ (k : ℕ). take k (p ++ r)) (sym e) ∙ take_front p r in
     let later : (i : ℕ) → cut (p ++ r) (i + 1) ≡ cut r i = λ i.

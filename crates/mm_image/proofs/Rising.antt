@@ -81,7 +81,7 @@ is_below k l e = ap is_lt e
 
 -- ---- the nodes
 
-kinds_are : (f : Trees Labelled) (d : Labelled) → every has_valid_kind f ≡ true → Within d (preorder f) → is_valid_kind d.kind ≡ true
+pub kinds_are : (f : Trees Labelled) (d : Labelled) → every has_valid_kind f ≡ true → Within d (preorder f) → is_valid_kind d.kind ≡ true
 kinds_are none d v i = absurd i
 kinds_are (node e inner rest) d v i = elim i [
   | inl h ↦ subst (λ (z : Labelled). is_valid_kind z.kind ≡ true) (sym h) (first_valid e inner rest v)

@@ -4,3 +4,4 @@ pub mod Members
 pub mod Upto
 pub mod Finding
 pub mod LabelOrder
+pub mod Grounds

@@ -1,8 +1,10 @@
 pub mod Keys
 pub mod Content
+pub mod Fields
 pub mod Image
 pub mod Laws
 pub mod Examples
+pub mod Subtrees
 pub mod Ground
 pub mod Inside
 pub mod Facts

@@ -4,14 +4,20 @@
 mod bringing;
 mod content;
 mod entry;
+mod fields;
+mod gathering;
 mod key;
 pub mod laws;
 mod parsed;
 mod pieces;
+mod placing;
 mod reading;
+mod rebuilding;
+mod subtrees;
 
 pub use bringing::{entries, word_counts};
 pub use entry::{Entries, Entry};
 pub use key::{chunk_key, count_key, occurrence_key};
 pub use parsed::{Parsed, parse_key};
 pub use reading::{count_of, name_of};
+pub use subtrees::subtree;

@@ -14,7 +14,7 @@ use Rattle.mm_image.specs.Laws.{CountsAreLengths}
 use Rattle.mm_image.specs.Image.{image}
 use Rattle.mm_image.specs.Facts.Finding.{entry_at, IsUp, IsDown, IsAt}
 use Rattle.mm_keeper_lists.specs.Found.{Tells, Blames, TellsCount, BlamesCount}
-use Rattle.mm_keeper_lists.specs.Ground.{SameGround, HoldsImage}
+use Rattle.mm_image.specs.Ground.{SameGround, HoldsImage}
 use Rattle.mm_keeper_lists.proofs.Searching.{unbroken_count}
 use Rattle.mm_keeper_lists.proofs.Lookups.{up_is, down_is, at_is, up_stands, down_stands, unbroken}
 

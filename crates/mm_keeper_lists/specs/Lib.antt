@@ -1,4 +1,3 @@
 pub mod Ranges
 pub mod Found
-pub mod Ground
 pub mod Inside

@@ -11,7 +11,7 @@ ghost use Rattle.mm_image.specs.Keys.{count_key, occurrence_key};
 ghost use Rattle.mm_lists.specs.Leaves.{Leaves};
 ghost use Rattle.mm_lists.specs.Lists.{IsLeft, IsNext, IsRight, IsRightPast, head_of};
 ghost use Rattle.mm_tree.specs.Search.{list_of, worded};
-ghost use Rattle.mm_keeper_lists.specs.Ground.{SameGround, HoldsImage};
+ghost use Rattle.mm_image.specs.Ground.{SameGround, HoldsImage};
 ghost use Rattle.mm_lists.specs.Causes.{Caused};
 ghost use Rattle.mm_tree.specs.Numbering.{Labelled};
 ghost use Rattle.mm_tree.specs.Trees.{Trees};
@@ -118,7 +118,7 @@ impl<'a, K: Keeper> KeeperLists<'a, K> {
 }
 
 impl<K: Keeper> Lists for KeeperLists<'_, K> {
-    ghost use Rattle.mm_keeper_lists.specs.Inside.Grounds.{ground_itself, ground_along};
+    ghost use Rattle.mm_image.specs.Facts.Grounds.{ground_itself, ground_along};
 
     ghost stands = { λ k f. HoldsImage K.has_maps K.seen k.keeper.now f };
 

@@ -2,7 +2,7 @@
 
 ghost use Rattle.std.specs.Prelude.{◌≡◌, ◌<◌, Option, IfOk, IfErr, length, slice_get};
 ghost use Rattle.mm_keeper_lists.specs.Found.{Tells, Blames, TellsCount, BlamesCount};
-ghost use Rattle.mm_keeper_lists.specs.Ground.{SameGround};
+ghost use Rattle.mm_image.specs.Ground.{SameGround};
 ghost use Rattle.mm_lists.specs.Causes.{Caused};
 
 use crate::reading::{count_in, label_in};

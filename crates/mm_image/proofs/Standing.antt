@@ -1,0 +1,366 @@
+-- Trees that may stand at a label.
+use Rattle.std.proofs.Common.{inl, inr, ◌≡◌, ℕ, ℤ, ◌+◌, ◌≤◌, Bool, true, false, cond, ◌||◌, List, [], ◌∷◌, ◌++◌, map, reverse, length, refl, ap, ap₂, sym, subst, ◌∙◌, Option, Some, None, append-nil, arith}
+use Rattle.std.specs.Prelude.{IsTrue, flat_map, max, nat_le, nat_lt}
+use Rattle.std.specs.Cmp.Lexicographic.{pointwise, slice_cmp}
+use Rattle.std.specs.Ordering.{int_cmp, int_eq}
+use Rattle.std.proofs.lemmas.Bool.{and_from, and_parts}
+use Rattle.std.proofs.lemmas.Bool.Decides.{nat_tests}
+use Rattle.std.proofs.lemmas.List.{reverse-append, reverse-reverse}
+use Rattle.mm_label.specs.Bytes.{bytes_of}
+use Rattle.mm_label.specs.Label.{IsLabel, all_in_range, is_empty, is_odd, is_segment, level}
+use Rattle.mm_label.specs.Facts.Levels.{level-cons}
+use Rattle.mm_label.specs.Fronts.{Apart, IsChild, Label, Le, Within, is_front}
+use Rattle.mm_label.specs.Facts.Children.{child_is, le_lt, siblings_apart}
+use Rattle.mm_label.specs.Facts.Fronts.{front_le, front_refl, is_front_of}
+use Rattle.mm_label.specs.Facts.Members.{within_first, within_joined, within_second}
+use Rattle.mm_label.specs.Facts.Order.{before_lt, label_same, lt_is, same_label}
+use Rattle.mm_tree.specs.declared.node.Node.{Node}
+use Rattle.mm_tree.specs.Facts.Formed.{front_splits, parts}
+use Rattle.mm_tree.specs.Facts.Labels.{labels_are}
+use Rattle.mm_tree.specs.Facts.Nodes.{Stands as StandsIn}
+use Rattle.mm_tree.specs.Facts.Rebuild.{rebuilt}
+use Rattle.mm_tree.specs.Formed.{ApartFrom, Formed, node_label}
+use Rattle.mm_tree.specs.Forests.{are_elements, are_labelled, has_valid_kind, is_well_formed, segment_below}
+use Rattle.mm_tree.specs.Numbering.{Labelled, forest_of, has_room, node_of}
+use Rattle.mm_tree.specs.Rebuild.{behind, below, rebuild, take_in}
+use Rattle.mm_tree.specs.Trees.{Tree, Trees, every, has_some, levels, node, none, one, preorder}
+use Rattle.mm_tree.specs.Validity.{is_element, is_valid_kind}
+use Rattle.mm_image.specs.declared.gathering.Group.{Group}
+use Rattle.mm_image.specs.Image.{chunks_of}
+use Rattle.mm_image.specs.Subtrees.{IsSubtree, is_shallow, is_subtree}
+use Rattle.mm_image.specs.Inside.Gathered.{AreGroups, CanBeStored, Tells, as_group, gathered}
+use Rattle.mm_image.specs.Inside.Placing.{fits_place, is_placed}
+use Rattle.mm_image.specs.Inside.Running.{TreeAt}
+use Rattle.mm_image.proofs.Determined.{OneLabel}
+use Rattle.mm_image.proofs.Groups.{nodes_gathered, same_groups, same_nodes, stored_groups}
+use Rattle.mm_image.proofs.Rising.{kinds_are}
+use Rattle.mm_image.proofs.Trees.{level_joined, rebuilt_nodes}
+
+-- ---- labelled siblings are formed
+
+roots_after : (y s t : Label) (rest : Trees Labelled) → is_segment s ≡ true → Le s t → are_labelled y (Some t) rest ≡ true → ApartFrom node_label (y ++ s) rest
+roots_after y s t none g l a = tt
+roots_after y s t (node e inner rest) g l a =
+    let p = parts y (Some t) e inner rest a in
+    let u = segment_below y e.label in
+    let m = le_lt s t u l (before_lt t u (lt_is (slice_cmp int_cmp t u) p.above)) in
+    (subst (Apart (y ++ s)) (sym (front_splits y e.label p.front)) (siblings_apart y s u g p.whole m), roots_after y s u rest g m.0 p.after)
+
+pub labelled_formed : (y : Label) (left : Option Label) (forest : Trees Labelled) → are_labelled y left forest ≡ true → Formed node_label y forest
+labelled_formed y left none a = tt
+labelled_formed y left (node e inner rest) a =
+    let p = parts y left e inner rest a in
+    let joined = front_splits y e.label p.front in
+    let s = segment_below y e.label in (
+      subst (IsChild y) (sym joined) (child_is y s p.whole),
+      labelled_formed e.label None inner p.below,
+      subst (λ (x : Label). ApartFrom node_label x rest) (sym joined) (roots_after y s s rest p.whole (front_le s s (front_refl s)) p.after),
+      labelled_formed y (Some s) rest p.after,
+    )
+
+-- ---- tests of all nodes
+
+pub every_so : {A : Type 0} (p q : A → Bool → Bool) (f : Trees A) → ((a : A) (b : Bool) → p a b ≡ true → q a b ≡ true) → every p f ≡ true → every q f ≡ true
+every_so p q none h e = refl
+every_so p q (node a inner rest) h e =
+    let s = and_parts (p a (has_some inner)) _ e in
+    let t = and_parts (every p inner) _ s.1 in
+    and_from (q a (has_some inner)) _ (h a (has_some inner) s.0) (and_from (every q inner) _ (every_so p q inner h t.0) (every_so p q rest h t.1))
+
+-- a test that is passed with another one and, of the nodes themselves, with a third
+pub every_with : {A : Type 0} (p q : A → Bool → Bool) (f : Trees A) → ((a : A) → Within a (preorder f) → (b : Bool) → p a b ≡ true → q a b ≡ true) → every p f ≡ true → every q f ≡ true
+every_with p q none h e = refl
+every_with p q (node a inner rest) h e =
+    let s = and_parts (p a (has_some inner)) _ e in
+    let t = and_parts (every p inner) _ s.1 in
+    and_from (q a (has_some inner)) _ (h a (inl refl) (has_some inner) s.0)
+    (and_from (every q inner) _ (every_with p q inner (λ d w b k. h d (inr (within_first d (preorder inner) (preorder rest) w)) b k) t.0)
+    (every_with p q rest (λ d w b k. h d (inr (within_second d (preorder inner) (preorder rest) w)) b k) t.1))
+
+-- ---- the parts of a subtree
+
+pub record Stands (label : List ℤ) (t : Tree Labelled) : Type 0 where
+  pub same : label ≡ t.0.label
+  pub labels : are_labelled label None t.1 ≡ true
+  pub room : every has_room (one t) ≡ true
+  pub kinds : every has_valid_kind (one t) ≡ true
+  pub shallow : every is_shallow (one t) ≡ true
+  pub top : (is_element t.0.kind || nat_lt 1 (level label)) ≡ true
+
+pub stands : (label : List ℤ) (t : Tree Labelled) → is_subtree label t ≡ true → Stands label t
+stands label t e =
+    let a = and_parts (pointwise int_eq label t.0.label) _ e in
+    let b = and_parts (are_labelled label None t.1) _ a.1 in
+    let c = and_parts (every has_room (one t)) _ b.1 in
+    let d = and_parts (every has_valid_kind (one t)) _ c.1 in
+    let f = and_parts (every is_shallow (one t)) _ d.1 in
+    record { same = same_label label t.0.label a.0; labels = b.0; room = c.0; kinds = d.0; shallow = f.0; top = f.1 }
+
+pub is_standing : (label : List ℤ) (t : Tree Labelled) → Stands label t → is_subtree label t ≡ true
+is_standing label t s =
+    and_from (pointwise int_eq label t.0.label) _ (label_same label t.0.label s.same)
+    (and_from (are_labelled label None t.1) _ s.labels
+    (and_from (every has_room (one t)) _ s.room (and_from (every has_valid_kind (one t)) _ s.kinds (and_from (every is_shallow (one t)) _ s.shallow s.top))))
+
+stored_of : (es : List Labelled) → ((d : Labelled) → Within d es → IsLabel d.label) → ((d : Labelled) → Within d es → is_valid_kind d.kind ≡ true) → CanBeStored es
+stored_of [] l k = tt
+stored_of (e ∷ es) l k = (l e (inl refl), k e (inl refl), stored_of es (λ d w. l d (inr w)) (λ d w. k d (inr w)))
+
+stored_label : (es : List Labelled) → CanBeStored es → (d : Labelled) → Within d es → IsLabel d.label
+stored_label [] s d w = absurd w
+stored_label (e ∷ es) s d w = elim w [ inl h ↦ subst (λ (z : Labelled). IsLabel z.label) (sym h) s.0 | inr h ↦ stored_label es s.2 d h ]
+
+stored_kind : (es : List Labelled) → CanBeStored es → (d : Labelled) → Within d es → is_valid_kind d.kind ≡ true
+stored_kind [] s d w = absurd w
+stored_kind (e ∷ es) s d w = elim w [ inl h ↦ subst (λ (z : Labelled). is_valid_kind z.kind ≡ true) (sym h) s.1 | inr h ↦ stored_kind es s.2 d h ]
+
+pub stored_tree : (label : List ℤ) (t : Tree Labelled) → IsLabel label → Stands label t → CanBeStored (preorder (one t))
+stored_tree label t g s = stored_of (preorder (one t)) labels (λ d w. kinds_are (one t) d s.kinds w)
+  where
+    labels : (d : Labelled) → Within d (preorder (one t)) → IsLabel d.label
+    labels d w = elim w [
+      | inl h ↦ subst (λ (z : Labelled). IsLabel z.label) (sym h) (subst IsLabel s.same g)
+      | inr h ↦ elim (within_joined d (preorder t.1) [] h) [
+        | inl k ↦ labels_are label None t.1 d s.labels (and_parts (every has_room t.1) _ (and_parts (has_room t.0 (has_some t.1)) _ s.room).1).0 k
+        | inr k ↦ absurd k
+      ]
+    ]
+
+-- ---- it is rebuilt from its nodes
+
+all_below : (y : Label) (f : Trees Labelled) → Formed node_label y f → (below node_label y f ≡ f) × (behind node_label y f ≡ none)
+all_below y none u = (refl, refl)
+all_below y (node e inner rest) u = by (is_front y e.label) (is_front_of y e.label u.0.below) (all_below y rest u.3)
+  where
+    by : (b : Bool) → b ≡ true → (below node_label y rest ≡ rest) × (behind node_label y rest ≡ none)
+        → (cond b (node e inner (below node_label y rest)) none ≡ node e inner rest) × (cond b (behind node_label y rest) (node e inner rest) ≡ none)
+    by true q h = (ap (node e inner) h.0, h.1)
+    by false q h = absurd cc
+
+pub rebuilt_tree : (label : List ℤ) (t : Tree Labelled) → Stands label t → rebuild node_label (preorder (one t)) ≡ one t
+rebuilt_tree label t s =
+    let f = labelled_formed label None t.1 s.labels in
+    let inner : rebuild node_label (preorder t.1 ++ []) ≡ t.1 = ap (rebuild node_label) (append-nil (preorder t.1)) ∙ rebuilt node_label label t.1 f in
+    let a = all_below label t.1 f in
+    ap (take_in node_label t.0) inner
+    ∙ ap₂ (λ (u v : Trees Labelled). node t.0 u v) (ap (λ (x : Label). below node_label x t.1) (sym s.same) ∙ a.0) (ap (λ (x : Label). behind node_label x t.1) (sym s.same) ∙ a.1)
+
+-- ---- what is tested of it
+
+placed_so : (e : Labelled) (b : Bool) → is_shallow e b ≡ true → has_valid_kind e b ≡ true → fits_place e b ≡ true
+placed_so e b s v = and_from (is_shallow e b) _ s (and_parts (is_valid_kind e.kind) _ v).1
+
+both_tests : {A : Type 0} (p q r : A → Bool → Bool) (f : Trees A) → ((a : A) (b : Bool) → p a b ≡ true → q a b ≡ true → r a b ≡ true) → every p f ≡ true → every q f ≡ true → every r f ≡ true
+both_tests p q r none h e g = refl
+both_tests p q r (node a inner rest) h e g =
+    let s = and_parts (p a (has_some inner)) _ e in
+    let t = and_parts (every p inner) _ s.1 in
+    let u = and_parts (q a (has_some inner)) _ g in
+    let v = and_parts (every q inner) _ u.1 in
+    and_from (r a (has_some inner)) _ (h a (has_some inner) s.0 u.0) (and_from (every r inner) _ (both_tests p q r inner h t.0 v.0) (both_tests p q r rest h t.1 v.1))
+
+pub placed_of : (label : List ℤ) (t : Tree Labelled) → Stands label t → is_placed label t ≡ true
+placed_of label t s =
+    and_from (pointwise int_eq label t.0.label) _ (label_same label t.0.label s.same)
+    (and_from (are_labelled t.0.label None t.1) _ (subst (λ (x : Label). are_labelled x None t.1 ≡ true) s.same s.labels)
+    (and_from (every fits_place (one t)) _ (both_tests is_shallow has_valid_kind fits_place (one t) placed_so s.shallow s.kinds) s.top))
+
+within_limit : (n : ℕ) → n ≤ 512 → nat_le n 512 ≡ true
+within_limit n h = grind (arith, nat_tests)
+
+pub stands_of : (label : List ℤ) (t : Tree Labelled) → is_placed label t ≡ true → CanBeStored (preorder (one t)) → Stands label t
+stands_of label t e c =
+    let a = and_parts (pointwise int_eq label t.0.label) _ e in
+    let b = and_parts (are_labelled t.0.label None t.1) _ a.1 in
+    let d = and_parts (every fits_place (one t)) _ b.1 in
+    let same = same_label label t.0.label a.0 in
+    record {
+      same = same;
+      labels = subst (λ (x : Label). are_labelled x None t.1 ≡ true) (sym same) b.0;
+      room = every_with fits_place has_room (one t) (λ n w x k.
+          let l = stored_label (preorder (one t)) c n w in
+          and_from (all_in_range n.label) _ l.in_range (within_limit (length (bytes_of n.label)) l.short)) d.0;
+      kinds = every_with fits_place has_valid_kind (one t) (λ n w x k. and_from (is_valid_kind n.kind) _ (stored_kind (preorder (one t)) c n w) (and_parts (is_shallow n x) _ k).1) d.0;
+      shallow = every_so fits_place is_shallow (one t) (λ n x k. (and_parts (is_shallow n x) _ k).0) d.0;
+      top = d.1;
+    }
+
+-- ---- the tree that the groups tell
+
+-- the chunks of a tree tell its nodes
+nodes_told : OneLabel → (label : List ℤ) (t : Tree Labelled) (groups : List Group) → IsLabel label → AreGroups groups → IsSubtree label t (gathered groups) → map as_group (preorder (one t)) ≡ groups
+nodes_told one_label label t groups g a s =
+    let c = stored_tree label t g (stands label t s.tree) in
+    same_groups one_label (map as_group (preorder (one t))) groups (stored_groups (preorder (one t)) c) a (nodes_gathered (preorder (one t)) ∙ sym s.chunks)
+
+pub no_nodes : OneLabel → (label : List ℤ) (groups : List Group) → IsLabel label → AreGroups groups → Tells groups None → TreeAt label (gathered groups) None
+no_nodes one_label label groups g a n t s = n (preorder (one t)) (stored_tree label t g (stands label t s.tree)) (nodes_told one_label label t groups g a s)
+
+-- every tree with these chunks is the one that is rebuilt
+pub one_tree : OneLabel → (label : List ℤ) (groups : List Group) (ns : List Labelled) (t : Tree Labelled) → IsLabel label → AreGroups groups → Tells groups (Some ns) → IsSubtree label t (gathered groups) → rebuild node_label ns ≡ one t
+one_tree one_label label groups ns t g a n s =
+    let k = stands label t s.tree in
+    let same : ns ≡ preorder (one t) = same_nodes ns (preorder (one t)) n.0 (stored_tree label t g k) (n.1 ∙ sym (nodes_told one_label label t groups g a s)) in
+    ap (rebuild node_label) same ∙ rebuilt_tree label t k
+
+not_none : (t : Tree Labelled) (f : Trees Labelled) → f ≡ none → f ≡ one t → ⊥
+not_none t f e h = let q : none ≡ one t = sym e ∙ h in absurd cc
+
+pub no_tree : OneLabel → (label : List ℤ) (groups : List Group) (ns : List Labelled) (trees : List Node) → IsLabel label → AreGroups groups → Tells groups (Some ns) → forest_of (reverse trees) ≡ rebuild node_label ns → trees ≡ [] → TreeAt label (gathered groups) None
+no_tree one_label label groups ns trees g a n r e t s = not_none t (rebuild node_label ns) (sym r ∙ ap (λ (z : List Node). forest_of (reverse z)) e) (one_tree one_label label groups ns t g a n s)
+
+last_first : (trees rest : List Node) (n : Node) (f : Trees Labelled) → trees ≡ rest ++ n ∷ [] → forest_of (reverse trees) ≡ f → f ≡ node (node_of n).0 (node_of n).1 (forest_of (reverse rest))
+last_first trees rest n f e r = sym r ∙ ap (λ (z : List Node). forest_of (reverse z)) e ∙ ap forest_of (reverse-append rest (n ∷ []))
+
+some_trees : (ns : List Node) → (ns ≡ [] → ⊥) → forest_of ns ≡ none → ⊥
+some_trees [] h e = h refl
+some_trees (n ∷ ns) h e = absurd cc
+
+some_reversed : (ns : List Node) → (ns ≡ [] → ⊥) → reverse ns ≡ [] → ⊥
+some_reversed ns h e = h (sym (reverse-reverse ns) ∙ ap reverse e)
+
+pub node_parts : (d e : Labelled) (f g h k : Trees Labelled) → node d f h ≡ node e g k → (d ≡ e) × (f ≡ g) × (h ≡ k)
+node_parts d e f g h k q = (cc, cc, cc)
+
+pub more_trees : OneLabel → (label : List ℤ) (groups : List Group) (ns : List Labelled) (trees rest : List Node) (n : Node) → IsLabel label → AreGroups groups → Tells groups (Some ns) → forest_of (reverse trees) ≡ rebuild node_label ns → trees ≡ rest ++ n ∷ [] → (rest ≡ [] → ⊥)
+    → TreeAt label (gathered groups) None
+more_trees one_label label groups ns trees rest n g a w r e h t s =
+    let q = sym (last_first trees rest n (rebuild node_label ns) e r) ∙ one_tree one_label label groups ns t g a w s in
+    some_trees (reverse rest) (some_reversed rest h) (node_parts (node_of n).0 t.0 (node_of n).1 t.1 (forest_of (reverse rest)) none q).2
+
+pub not_placed : OneLabel → (label : List ℤ) (groups : List Group) (ns : List Labelled) (trees rest : List Node) (n : Node) → IsLabel label → AreGroups groups → Tells groups (Some ns) → forest_of (reverse trees) ≡ rebuild node_label ns → trees ≡ rest ++ n ∷ [] → is_placed label (node_of n) ≡ false
+    → TreeAt label (gathered groups) None
+not_placed one_label label groups ns trees rest n g a w r e h t s =
+    let q = node_parts (node_of n).0 t.0 (node_of n).1 t.1 (forest_of (reverse rest)) none (sym (last_first trees rest n (rebuild node_label ns) e r) ∙ one_tree one_label label groups ns t g a w s) in
+    let same : node_of n ≡ t = λ i. (q.0 i, q.1 i) in
+    let p : is_placed label (node_of n) ≡ true = ap (is_placed label) same ∙ placed_of label t (stands label t s.tree) in
+    let z : false ≡ true = sym h ∙ p in absurd cc
+
+pub tree_is : (label : List ℤ) (groups : List Group) (ns : List Labelled) (trees rest : List Node) (n : Node) → Tells groups (Some ns) → forest_of (reverse trees) ≡ rebuild node_label ns → trees ≡ rest ++ n ∷ [] → rest ≡ [] → is_placed label (node_of n) ≡ true
+    → TreeAt label (gathered groups) (Some (node_of n))
+tree_is label groups ns trees rest n w r e h p =
+    let q : rebuild node_label ns ≡ one (node_of n) = last_first trees rest n (rebuild node_label ns) e r ∙ ap (λ (z : List Node). node (node_of n).0 (node_of n).1 (forest_of (reverse z))) h in
+    let nodes : preorder (one (node_of n)) ≡ ns = sym (ap preorder q) ∙ rebuilt_nodes ns in
+    record {
+      tree = is_standing label (node_of n) (stands_of label (node_of n) p (subst CanBeStored (sym nodes) w.0));
+      chunks = sym (ap gathered w.1) ∙ nodes_gathered ns ∙ ap (flat_map chunks_of) (sym nodes);
+    }
+
+-- ---- the subtrees of a well-formed forest
+
+inner_labelled : (y : Label) (left : Option Label) (f : Trees Labelled) (d : Labelled) (low : Trees Labelled) → are_labelled y left f ≡ true → StandsIn d low f → are_labelled d.label None low ≡ true
+inner_labelled y left none d low a h = absurd h
+inner_labelled y left (node e inner rest) d low a h =
+    let p = parts y left e inner rest a in
+    elim h [
+      | inl k ↦ subst (λ (z : Labelled). are_labelled z.label None low ≡ true) (sym k.0) (subst (λ (z : Trees Labelled). are_labelled e.label None z ≡ true) (sym k.1) p.below)
+      | inr k ↦ elim k [
+        | inl q ↦ inner_labelled e.label None inner d low p.below q
+        | inr q ↦ inner_labelled y (Some (segment_below y e.label)) rest d low p.after q
+      ]
+    ]
+
+every_inner : {A : Type 0} (p : A → Bool → Bool) (f : Trees A) (d : A) (low : Trees A) → every p f ≡ true → StandsIn d low f → every p (one (d, low)) ≡ true
+every_inner p none d low e h = absurd h
+every_inner {A} p (node a inner rest) d low e h =
+    let s = and_parts (p a (has_some inner)) _ e in
+    let t = and_parts (every p inner) _ s.1 in
+    elim h [
+      | inl k ↦ subst (λ (z : A). every p (one (z, low)) ≡ true) (sym k.0) (subst (λ (z : Trees A). every p (one (a, z)) ≡ true) (sym k.1) (and_from (p a (has_some inner)) _ s.0 (and_from (every p inner) true t.0 refl)))
+      | inr k ↦ elim k [
+        | inl q ↦ every_inner p inner d low t.0 q
+        | inr q ↦ every_inner p rest d low t.1 q
+      ]
+    ]
+
+segment_level : (s : List ℤ) → is_segment s ≡ true → level s ≡ 1
+segment_level [] h = absurd cc
+segment_level (c ∷ s) h = by (is_odd c) refl h (segment_level s)
+  where
+    alone : (s : List ℤ) → is_odd c ≡ true → is_empty s ≡ true → level (c ∷ s) ≡ 1
+    alone [] e g = level-cons c [] ∙ ap (λ (b : Bool). cond b 1 0 + 0) e
+    alone (d ∷ s) e g = absurd cc
+
+    by : (b : Bool) → is_odd c ≡ b → cond b (is_empty s) (is_segment s) ≡ true → (is_segment s ≡ true → level s ≡ 1) → level (c ∷ s) ≡ 1
+    by true e h f = alone s e h
+    by false e h f =
+        let t = level-cons c s in
+        let z : ◌≡◌ {A = ℕ} (cond (is_odd c) 1 0) 0 = ap (λ (b : Bool). cond b 1 0) e in
+        let u = f h in
+        omega (arith, t, z, u)
+
+child_level : (y : Label) (left : Option Label) (e : Labelled) (inner rest : Trees Labelled) → are_labelled y left (node e inner rest) ≡ true → level e.label ≡ level y + 1
+child_level y left e inner rest a =
+    let p = parts y left e inner rest a in
+    let s = segment_below y e.label in
+    ap level (front_splits y e.label p.front) ∙ level_joined y s ∙ ap (λ (n : ℕ). level y + n) (segment_level s p.whole)
+
+shallow_all : (y : Label) (left : Option Label) (f : Trees Labelled) → are_labelled y left f ≡ true → level y + levels f ≤ 200 → every is_shallow f ≡ true
+shallow_all y left none a h = refl
+shallow_all y left (node e inner rest) a h =
+    let p = parts y left e inner rest a in
+    let l = child_level y left e inner rest a in
+    let i : level e.label + levels inner ≤ 200 = inner_limit (level y) (level e.label) (levels inner) (levels rest) l h in
+    let r : level y + levels rest ≤ 200 = rest_limit (level y) (levels inner) (levels rest) h in
+    and_from (is_shallow e (has_some inner)) _ (no_more (level e.label) (levels inner) i)
+    (and_from (every is_shallow inner) _ (shallow_all e.label None inner p.below i) (shallow_all y (Some (segment_below y e.label)) rest p.after r))
+  where
+    inner_limit : (a b c d : ℕ) → b ≡ a + 1 → a + max (1 + c) d ≤ 200 → b + c ≤ 200
+    inner_limit a b c d e h = omega arith
+
+    rest_limit : (a c d : ℕ) → a + max (1 + c) d ≤ 200 → a + d ≤ 200
+    rest_limit a c d h = omega arith
+
+    no_more : (a b : ℕ) → a + b ≤ 200 → nat_le a 200 ≡ true
+    no_more a b h = grind (arith, nat_tests)
+
+deeper : (y : Label) (left : Option Label) (f : Trees Labelled) (d : Labelled) (low : Trees Labelled) → are_labelled y left f ≡ true → StandsIn d low f → level y + 1 ≤ level d.label
+deeper y left none d low a h = absurd h
+deeper y left (node e inner rest) d low a h =
+    let p = parts y left e inner rest a in
+    let l = child_level y left e inner rest a in
+    elim h [
+      | inl k ↦ subst (λ (z : Labelled). level y + 1 ≤ level z.label) (sym k.0) (omega (arith, l))
+      | inr k ↦ elim k [
+        | inl q ↦ let u = deeper e.label None inner d low p.below q in omega (arith, l, u)
+        | inr q ↦ deeper y (Some (segment_below y e.label)) rest d low p.after q
+      ]
+    ]
+
+on_top : (left : Option Label) (f : Trees Labelled) (d : Labelled) (low : Trees Labelled) → are_labelled [] left f ≡ true → are_elements f ≡ true → StandsIn d low f → (is_element d.kind || nat_lt 1 (level d.label)) ≡ true
+on_top left none d low a e h = absurd h
+on_top left (node n inner rest) d low a e h =
+    let p = parts [] left n inner rest a in
+    let q = and_parts (is_element n.kind) _ e in
+    elim h [
+      | inl k ↦ subst (λ (z : Labelled). (is_element z.kind || nat_lt 1 (level z.label)) ≡ true) (sym k.0) (ap (λ (b : Bool). b || nat_lt 1 (level n.label)) q.0)
+      | inr k ↦ elim k [
+        | inl w ↦
+            let l = child_level [] left n inner rest a in
+            let u = deeper n.label None inner d low p.below w in
+            below_top (is_element d.kind) (level d.label) (omega (arith, l, u))
+        | inr w ↦ on_top (Some (segment_below [] n.label)) rest d low p.after q.1 w
+      ]
+    ]
+  where
+    below_top : (b : Bool) (n : ℕ) → 2 ≤ n → (b || nat_lt 1 n) ≡ true
+    below_top true n h = refl
+    below_top false n h = grind (arith, nat_tests)
+
+pub stands_in : (f : Trees Labelled) (t : Tree Labelled) → IsTrue (is_well_formed f) → StandsIn t.0 t.1 f → Stands t.0.label t
+stands_in f t w h =
+    let a = and_parts (are_labelled [] None f) _ w in
+    let r = and_parts (every has_room f) _ a.1 in
+    let v = and_parts (every has_valid_kind f) _ r.1 in
+    let e = and_parts (are_elements f) _ v.1 in
+    record {
+      same = refl;
+      labels = inner_labelled [] None f t.0 t.1 a.0 h;
+      room = every_inner has_room f t.0 t.1 r.0 h;
+      kinds = every_inner has_valid_kind f t.0 t.1 v.0 h;
+      shallow = every_inner is_shallow f t.0 t.1 (shallow_all [] None f a.0 (limit (levels f) e.1)) h;
+      top = on_top None f t.0 t.1 a.0 e.0 h;
+    }
+  where
+    limit : (n : ℕ) → nat_le n 200 ≡ true → 0 + n ≤ 200
+    limit n h = grind (arith, nat_tests)
