@@ -10,3 +10,7 @@ pub mod Parts
 pub mod Editing
 pub mod Halving
 pub mod Telling
+pub mod Numbers
+pub mod Sizes
+pub mod TakingOut
+pub mod Rooming

@@ -94,7 +94,7 @@ count_at w n e h = by (nat_lt 0 n) h
     by true h = elim h [ inl q ↦ ap (λ (z : Entry). z.0) q | inr q ↦ absurd q ]
     by false h = absurd h
 
-counts_of : (number : Word → ℕ) (ws : List Word) (e : Entry) → Within e (counts_at number ws) → (w : Word) × Within w ws × (e.0 ≡ count_key w)
+pub counts_of : (number : Word → ℕ) (ws : List Word) (e : Entry) → Within e (counts_at number ws) → (w : Word) × Within w ws × (e.0 ≡ count_key w)
 counts_of number [] e h = absurd h
 counts_of number (w ∷ ws) e h = elim (within_joined e (count_entry w (number w)) (counts_at number ws) h) [
   | inl q ↦ (w, inl refl, count_at w (number w) e q)
@@ -133,7 +133,7 @@ pub record AreWordsOf (ws : List Word) (taken given : List Labelled) : Type 0 wh
   pub rise : Ordered Above ws
   pub at : (k : Key) → nat_lt 0 (tally taken k + tally given k) ≡ list_any (bytes_eq k) (map count_key ws)
 
-below_count : (e : Entry) (w : Word) → Headed 1 e ⊎ Headed 2 e → below e.0 (count_key w) ≡ true
+pub below_count : (e : Entry) (w : Word) → Headed 1 e ⊎ Headed 2 e → below e.0 (count_key w) ≡ true
 below_count e w (inl h) = subst (λ (z : Key). below z (count_key w) ≡ true) (sym h.1) (headed 1 3 h.0 w (omega arith))
 below_count e w (inr h) = subst (λ (z : Key). below z (count_key w) ≡ true) (sym h.1) (headed 2 3 h.0 w (omega arith))
 
@@ -148,10 +148,13 @@ in_hand_is_part all run other own ws o w i = record {
       ∙ ap (λ z. or_else (find (owned run) k) z) (find_counts (tally all) ws k ∙ ap (λ b. if b then counted_as (tally all k) else None) (sym (i k)));
 }
 
+pub entries_low : (u : Trees Labelled) (e : Entry) → Within e (entries_of u) → Headed 1 e ⊎ Headed 2 e
+entries_low u e i = elim (within_joined e (chunks u) (occurrences (worded u)) i) [ inl q ↦ inl (chunks_headed u e q) | inr q ↦ inr (occurrences_headed (worded u) e q) ]
+
 pub tree_entries : ByteOrder → Ancestry → (u : Trees Labelled) → Nodes u → AreEntriesOf (entries_of u) (preorder u)
 tree_entries order ancestry u n = record {
   rises = entries_rise order ancestry u n;
-  low = λ e i. elim (within_joined e (chunks u) (occurrences (worded u)) i) [ inl q ↦ inl (chunks_headed u e q) | inr q ↦ inr (occurrences_headed (worded u) e q) ];
+  low = entries_low u;
   at = λ k. find-append (chunks u) (occurrences (worded u)) k ∙ ap (λ z. or_else (find (chunks u) k) z) (occurrences_are u k) ∙ sym (owned_find (preorder u) k);
 }
 

@@ -1,5 +1,5 @@
 -- What is told of a difference, entry by entry.
-use Rattle.std.proofs.Common.{◌≡◌, ◌+◌, ℕ, length, arith, refl, ap, sym, ◌∙◌, subst, Bool, true, false, List, [], ◌∷◌, ◌++◌, append_assoc}
+use Rattle.std.proofs.Common.{◌≡◌, ◌+◌, ℕ, length, arith, refl, ap, sym, ◌∙◌, Bool, true, false, List, [], ◌∷◌, ◌++◌, append_assoc}
 use Rattle.std.specs.Prelude.{is_some, Option, Some, None, if◌then◌else◌, not, option_map}
 use Rattle.mm_keeper.specs.Entries.{Entry, Entries, has, lookup}
 use Rattle.mm_keeper.specs.Facts.Keys.{has-some, has-none}
@@ -44,6 +44,3 @@ some_same f (Some a) = refl
 
 pub one_less : {A : Type 0} (n m : ℕ) (xs ys : List A) (x : A) → n ≡ length xs → m + 1 ≡ n → xs ≡ x ∷ ys → m ≡ length ys
 one_less n m xs ys x e f g = let t : length xs ≡ length (x ∷ ys) = ap length g in omega arith
-
-pub sized_more : (told now xs ys : Entries) (e : Entry) → xs ≡ e ∷ ys → now ≡ told ++ e ∷ [] → AreSized told × AreSized xs → AreSized now × AreSized ys
-sized_more told now xs ys e x n t = let s = subst AreSized x t.1 in (subst AreSized (sym n) (sized_behind told e t.0 (s.0, tt)), s.1)

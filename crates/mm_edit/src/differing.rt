@@ -1,6 +1,6 @@
 //! The difference of two lists of entries in the order of their keys.
 
-ghost use Rattle.std.specs.Prelude.{◌≡◌, IfOk, option_map};
+ghost use Rattle.std.specs.Prelude.{◌≡◌, ◌∷◌, ◌++◌, [], IfOk, OnOk, if◌then◌else◌, not, option_map};
 ghost use Rattle.mm_image.specs.Keyed.{keyed};
 ghost use Rattle.mm_keeper.specs.Entries.{IsSorted, has, lookup};
 ghost use Rattle.mm_edit.specs.Difference.{changed, gone, holds, keys};
@@ -52,6 +52,17 @@ pub fn gone(alloc: Global, before: &[Entry], after: &[Entry]) -> Result<Vec<Byte
     Ok(keys)
 }
 
+/// Puts the entry, unless it was there before.
+fn push_changed(before: &[Entry], entry: Entry, entries: &mut Vec<Entry>) -> Result<(), AllocError>
+    ensures put { IsSorted (keyed before.now) → OnOk result (keyed entries.new.items ≡ (if not (holds (keyed before.now) (entry.key, entry.value)) then keyed entries.old.items ++ (entry.key, entry.value) ∷ [] else keyed entries.old.items)) }
+    ensures sized { AreSized (keyed entries.old.items) → AreSized ((entry.key, entry.value) ∷ []) → OnOk result (AreSized (keyed entries.new.items)) }
+{
+    if !holds(before, &entry) {
+        entries.push(entry)?;
+    }
+    Ok(())
+}
+
 /// The entries that are there after, and weren't so before.
 pub fn changed(alloc: Global, before: &[Entry], after: Vec<Entry>) -> Result<Vec<Entry>, AllocError>
     ensures changed { IsSorted (keyed before.now) → IfOk result (λ es. keyed es.items ≡ changed (keyed before.now) (keyed after.items)) }
@@ -59,9 +70,7 @@ pub fn changed(alloc: Global, before: &[Entry], after: Vec<Entry>) -> Result<Vec
 {
     let mut entries = Vec::new(alloc);
     for entry in after {
-        if !holds(before, &entry) {
-            entries.push(entry)?;
-        }
+        push_changed(before, entry, &mut entries)?;
     }
     Ok(entries)
 }

@@ -2,9 +2,11 @@
 #![tactic(auto)]
 
 mod carrying;
+mod counting;
 mod differing;
 pub mod laws;
 mod plan;
+mod taking_out;
 
 pub use carrying::carry_out;
 pub use plan::{EditError, Plan};

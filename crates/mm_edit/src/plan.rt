@@ -38,6 +38,17 @@ impl Model for Plan {
 }
 
 impl Plan {
+    pub(crate) fn new(done: Done, removes: Vec<Bytes>, puts: Vec<Entry>) -> Plan
+        requires { AreSized (keyed puts.items) }
+        ensures { result ≡ record { done = done; removes = removes.items; puts = keyed puts.items } }
+    {
+        Plan {
+            done,
+            removes,
+            puts,
+        }
+    }
+
     /// What the edit does.
     pub fn done(&self) -> &Done
         ensures { result.now ≡ self.now.done }

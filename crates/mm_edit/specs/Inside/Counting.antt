@@ -1,7 +1,12 @@
 -- The counts of some words, as entries.
-use Rattle.std.specs.Prelude.{ℕ, List, [], ◌∷◌, flat_map, if◌then◌else◌, nat_lt}
+use Rattle.std.specs.Prelude.{ℕ, ◌-◌, ◌≡◌, List, [], ◌∷◌, Option, Some, None, flat_map, map, if◌then◌else◌, nat_lt, ⊤}
 use Rattle.byteorder.specs.Endian.{big_bytes}
-use Rattle.mm_keeper.specs.Entries.{Entries}
+use Rattle.mm_host.specs.declared.damage.Damage.TheVariants as damage
+use Rattle.mm_host.specs.declared.damage.Fault.{Fault}
+use Rattle.mm_host.specs.declared.damage.Fault.TheVariants as fault
+use Rattle.mm_label.specs.Fronts.{Within}
+use Rattle.mm_keeper.specs.Entries.{Entries, Entry, lookup}
+use Rattle.mm_image.specs.Content.{count_in}
 use Rattle.mm_image.specs.Keys.{count_key}
 
 -- the entry of a word's count, where it isn't 0
@@ -10,3 +15,72 @@ count_entry w n = if nat_lt 0 n then (count_key w, big_bytes 8 n) ∷ [] else []
 
 abbrev pub counts_at : (List ℕ → ℕ) → List (List ℕ) → Entries
 counts_at number ws = flat_map (λ w. count_entry w (number w)) ws
+
+-- ---- what a map tells
+
+-- the number in a count's value: 0 without one, and none where it isn't eight bytes
+abbrev pub number_in : Option (List ℕ) → Option ℕ
+number_in None = Some 0
+number_in (Some v) = count_in v
+
+-- the number at a word's count
+abbrev pub number_held : Entries → List ℕ → Option ℕ
+number_held m w = number_in (lookup m (count_key w))
+
+abbrev pub or_zero : Option ℕ → ℕ
+or_zero None = 0
+or_zero (Some n) = n
+
+abbrev pub held : Entries → List ℕ → ℕ
+held m w = or_zero (number_held m w)
+
+-- the counts of these words, and what is left of them without so many nodes
+abbrev pub counts_held : Entries → List (List ℕ × ℕ) → Entries
+counts_held m ts = flat_map (λ t. count_entry t.0 (held m t.0)) ts
+
+abbrev pub counts_left : Entries → List (List ℕ × ℕ) → Entries
+counts_left m ts = flat_map (λ t. count_entry t.0 (held m t.0 - t.1)) ts
+
+-- each of these words' counts tells its number
+abbrev pub AreTold : Entries → List (List ℕ × ℕ) → Type 0
+AreTold m ts = map (λ t. number_held m t.0) ts ≡ map (λ t. Some (held m t.0)) ts
+
+-- where it is damage, it is that of this key, and so
+abbrev pub Blames : (List ℕ → Type 0) → Fault → Type 0
+Blames P (fault.Damaged (damage.Key key)) = P key
+Blames P (fault.Damaged (damage.Cut place at needed held)) = ⊥
+Blames P (fault.Damaged (damage.Digest at stored found)) = ⊥
+Blames P (fault.Damaged (damage.Sort at stored due)) = ⊥
+Blames P (fault.Damaged (damage.Size at stored least most)) = ⊥
+Blames P (fault.Damaged (damage.Page page why stored due)) = ⊥
+Blames P fault.DiskFault = ⊤
+Blames P fault.Spent = ⊤
+Blames P fault.Memory = ⊤
+
+-- it is no damage
+abbrev pub IsUndamaged : Fault → Type 0
+IsUndamaged f = Blames (λ key. ⊥) f
+
+-- an entry tells the number in its value
+abbrev pub TellsNumber : Option Entry → ℕ → Type 0
+TellsNumber None n = ⊥
+TellsNumber (Some e) n = count_in e.1 ≡ Some n
+
+-- damage names the key of an entry whose value tells no number
+abbrev pub BlamesNumber : Option Entry → Fault → Type 0
+BlamesNumber None f = Blames (λ key. ⊥) f
+BlamesNumber (Some e) f = Blames (λ key. (key ≡ e.0) × (count_in e.1 ≡ None)) f
+
+-- damage names a word's count, which tells no number
+abbrev pub BlamesCount : Entries → List ℕ → Fault → Type 0
+BlamesCount m w f = Blames (λ key. (key ≡ count_key w) × (number_held m w ≡ None)) f
+
+abbrev pub BlamesCounts : Entries → List (List ℕ × ℕ) → Fault → Type 0
+BlamesCounts m ts f = Blames (λ key. (t : List ℕ × ℕ) × Within t ts × (key ≡ count_key t.0) × (number_held m t.0 ≡ None)) f
+
+-- want of memory, or damage
+abbrev pub IsOwn : Fault → Type 0
+IsOwn (fault.Damaged d) = ⊤
+IsOwn fault.DiskFault = ⊥
+IsOwn fault.Spent = ⊥
+IsOwn fault.Memory = ⊤
