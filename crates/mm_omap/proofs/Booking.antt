@@ -16,6 +16,7 @@ use Rattle.mm_omap.specs.Cut.{IsCut}
 use Rattle.mm_omap.specs.Inside.Runs.{Writes, Opens, Heads, IsSafe, Now}
 use Rattle.mm_omap.specs.Keeping.{AreInRange, AllHold, AreLeaves, IsPaged, HeadFits}
 use Rattle.mm_omap.specs.Standing.{leaf_of, leaves_of}
+use Rattle.mm_omap.proofs.Chains.{used_differs, eq_sym}
 use Rattle.mm_omap.proofs.Puts.{link-at, stays-chain, stays-joined, Stays-fresh, first-inserted, split-done, grow-done, grow-failed, first-leaf, first-joined}
 
 pub keeps-of : (b b' : Book) (c c' n : ℕ) → c ≤ c' → ChangesOnly n b b' → Keeps (leaves_of b c) (leaves_of b' c') n n
@@ -152,8 +153,8 @@ safe-now b b' c c' ds s p = record {
 }
 
 -- two runs of calls
-pub now-then : (b b' : Book) (c c' : ℕ) (ds es : Items) (m w : Entries) → joined (leaves_of b c).leaf ds ≡ m → Now b' c' es (joined (leaves_of b c).leaf ds) → Now b' c' es m
-now-then b b' c c' ds es m w e n = record { paged = n.paged; entries = n.entries ∙ e }
+pub now-then : (b b' : Book) (c c' : ℕ) (ds es : Items) (m : Entries) → joined (leaves_of b c).leaf ds ≡ m → Now b' c' es (joined (leaves_of b c).leaf ds) → Now b' c' es m
+now-then b b' c c' ds es m e n = record { paged = n.paged; entries = n.entries ∙ e }
 
 -- ---- numbers in range
 
@@ -199,6 +200,28 @@ hold-split f g (d ∷ ds) (suc i) n bound l same lo hi h = (one (d.1 == number_a
     one true t p q k = subst (λ a. 0 < length (g a).entries) (sym (eqb-true d.1 (number_at ds i) p)) lo
     one false true p q k = subst (λ a. 0 < length (g a).entries) (sym (eqb-true d.1 n q)) hi
     one false false p q k = subst (λ w. 0 < length w.entries) (sym (same d.1 p q)) k
+
+-- both leaves hold entries, after a leaf in two
+pub split-hold : (b r q : Book) (c c' : ℕ) (ds es : Items) (i number : ℕ) (item : List ℕ × ℕ) (high : List ℕ) → IsPaged b c ds → i < length ds → number ≡ number_at ds i → Opens item.1 b r → r.shelf.page item.1 ≡ high
+    → Writes number r q → 0 < length (entries_of (q.shelf.page number)) → 0 < length (entries_of high) → (1 < length ds → AllHold (leaves_of b c).leaf ds) → es ≡ insert ds (suc i) item → AllHold (leaves_of q c').leaf es
+split-hold b r q c c' ds es i number item high p l en o eh w lo hi old same =
+    let apart = eq_sym (number_at ds i) item.1 (used_differs (leaves_of b c) (number_at ds i) item.1 (link-at (leaves_of b c) ds i l p.chain).used o.free) in
+    let moved : (j : ℕ) → (j == number_at ds i) ≡ false → q.shelf.page j ≡ r.shelf.page j = λ j e. w.changes.page j (ap (λ n. j == n) en ∙ e) in
+    subst (AllHold (leaves_of q c').leaf) (sym same)
+    (hold-split (leaves_of b c).leaf (leaves_of q c').leaf ds i item.1 item.0 l (λ j e f. ap leaf_of (moved j e ∙ o.changes.page j f))
+    (subst (λ a. 0 < length (entries_of (q.shelf.page a))) en lo) (subst (λ t. 0 < length (entries_of t)) (sym (moved item.1 apart ∙ eh)) hi) old)
+
+-- a page was written as it was
+pub hold-kept : (b b' : Book) (c c' : ℕ) (ds : Items) (number : ℕ) → Writes number b b' → b'.shelf.page number ≡ b.shelf.page number → (1 < length ds → AllHold (leaves_of b c).leaf ds) → 1 < length ds → AllHold (leaves_of b' c').leaf ds
+hold-kept b b' c c' ds number w e h l = every ds (h l)
+  where
+    page : (j : ℕ) (t : Bool) → (j == number) ≡ t → b'.shelf.page j ≡ b.shelf.page j
+    page j true q = subst (λ a. b'.shelf.page a ≡ b.shelf.page a) (sym (eqb-true j number q)) e
+    page j false q = w.changes.page j q
+
+    every : (es : Items) → AllHold (leaves_of b c).leaf es → AllHold (leaves_of b' c').leaf es
+    every [] k = tt
+    every (x ∷ es) k = (subst (λ t. 0 < length (entries_of t)) (sym (page x.1 (x.1 == number) refl)) k.0, every es k.1)
 
 -- ---- the header
 

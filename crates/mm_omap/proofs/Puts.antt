@@ -1,12 +1,12 @@
 -- A put into one leaf of the chain, with and without a split.
 use Rattle.std.proofs.Common.{◌≡◌, ℕ, zero, suc, ◌+◌, ◌≤◌, ◌<◌, ◌==◌, Bool, true, false, List, [], ◌∷◌, ◌++◌, length, get_or, take, drop, refl, sym, ap, ◌∙◌, subst, arith, eqb-true}
 use Rattle.std.specs.List.{insert}
-use Rattle.mm_keeper.specs.Entries.{Entries, below, Rises, rank, has, put, without}
+use Rattle.mm_keeper.specs.Entries.{lookup, Entries, below, Rises, rank, has, put, without}
 use Rattle.mm_page.specs.Limits.{size, AreWithin}
 use Rattle.mm_omap.specs.Chain.{AllFrom}
 use Rattle.mm_omap.specs.Chain.{Leaf, Leaves, Items, joined, IsUnder, IsPart, IsLink, IsChain, Keeps, Stays, first_key, Climbs, bound_at, number_at, IsMap}
 use Rattle.mm_omap.specs.Cut.{IsCut}
-use Rattle.mm_keeper.specs.Facts.Keys.{rank-front, rank-back, has-front, has-back}
+use Rattle.mm_keeper.specs.Facts.Keys.{lookup-front, lookup-back, rank-front, rank-back, has-front, has-back}
 use Rattle.mm_omap.proofs.Pieces.{put-between, without-between}
 use Rattle.mm_omap.proofs.Chains.{Agrees, joined-stays, joined-app, part_of, front_below, back_above, part-put, used_differs, climbs_more, eq_sym}
 use Rattle.mm_omap.proofs.Changes.{chain-set, joined-set, chain-split, joined-split, stays}
@@ -253,3 +253,12 @@ without-joined p k xs d zs h f u =
 pub found-at : (p : Leaves) (k : List ℕ) (ds : Items) (i : ℕ) → i < length ds → IsChain p ds → below k (bound_at ds i) ≡ false → IsUnder k (drop (suc i) ds) → has (joined p.leaf ds) k ≡ has (p.leaf (number_at ds i)).entries k
 found-at p k ds i l c f u = subst (λ es. has (joined p.leaf es) k ≡ has (p.leaf (number_at ds i)).entries k) (parted ds i l)
     (found-in p k (take i ds) (bound_at ds i, number_at ds i) (drop (suc i) ds) (subst (λ es. IsChain p es) (sym (parted ds i l)) c) f u).has
+
+pub lookup-in : (p : Leaves) (k : List ℕ) (ds : Items) (i : ℕ) → i < length ds → IsChain p ds → below k (bound_at ds i) ≡ false → IsUnder k (drop (suc i) ds) → lookup (joined p.leaf ds) k ≡ lookup (p.leaf (number_at ds i)).entries k
+lookup-in p k ds i l c f u = subst (λ es. lookup (joined p.leaf es) k ≡ lookup (p.leaf (number_at ds i)).entries k) (parted ds i l)
+    (let d : List ℕ × ℕ = (bound_at ds i, number_at ds i) in
+    let zs = drop (suc i) ds in
+    let whole = subst (λ es. IsChain p es) (sym (parted ds i l)) c in
+    ap (λ m. lookup m k) (joined-app p.leaf (take i ds) (d ∷ zs))
+    ∙ lookup-front k (joined p.leaf (take i ds)) _ (front_below p k (take i ds) d zs whole f)
+    ∙ lookup-back k (p.leaf d.1).entries (joined p.leaf zs) (back_above p k zs (part_of p (take i ds) (d ∷ zs) whole).1 u))

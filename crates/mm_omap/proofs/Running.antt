@@ -9,6 +9,10 @@ use Rattle.mm_keeper.specs.Keeping.{Keeps, Written, spent_after}
 use Rattle.mm_page.specs.Paging.{Shelf, Rests, but_damage}
 use Rattle.mm_omap.specs.Inside.Runs.{Runs}
 
+pub none-some : {X : Type 0} (o : Option X) (x : X) → o ≡ None → o ≡ Some x → ⊥
+none-some None x h i = absurd cc
+none-some (Some y) x h i = absurd cc
+
 rose-later : (a b c : ℕ) → a ≤ b → Rose b c → Rose a c
 rose-later a b c l h = omega (arith, l, h)
 

@@ -11,7 +11,7 @@ use Rattle.std.specs.Str.{bytes_eq}
 leb_over : (a b : ℕ) → nat_le a b ≡ false → b < a
 leb_over a b h = grind (arith, nat_tests)
 
-leb_under : (a b : ℕ) → nat_le a b ≡ true → a ≤ b
+pub leb_under : (a b : ℕ) → nat_le a b ≡ true → a ≤ b
 leb_under a b h = grind (arith, nat_tests)
 
 cost-within : (e : List ℕ × List ℕ) (m : Entries) → AreWithin (e ∷ m) → cost e ≤ 1830

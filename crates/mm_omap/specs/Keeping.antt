@@ -44,10 +44,10 @@ abbrev pub or_none : Option Entries → Entries
 or_none None = []
 or_none (Some m) = m
 
--- while it isn't spent, a map may be committed: no leaf but an only one is empty, page 0 fits, and what was kept stands for a map
+-- while it isn't spent, a map may be committed: no leaf but an only one is empty, without a leaf there is no header, and what was kept stands for a map
 pub record IsKeeping (b : Book) (shelf : Shelf) (batch : ℕ) (count : ℕ) (ds : Items) : Type 0 where
   pub hold : 1 < length ds → AllHold (leaves_of b count).leaf ds
-  pub head : HeadFits b.shelf.head ds
+  pub head : ds ≡ [] → b.shelf.head ≡ None
   pub kept : map_in shelf ≡ Some (or_none (map_in shelf))
   pub none : ds ≡ [] → batch ≡ 0
 
@@ -64,4 +64,4 @@ pub record IsSound (has_pages : Type 0) (spent : Bool) (b : Book) (kept : Shelf)
 
 -- how many changes a batch of so many pages stands for, at least
 abbrev pub changes_in : ℕ → ℕ
-changes_in batch = (batch + 6) / 8
+changes_in batch = (batch + 7) / 8

@@ -12,6 +12,7 @@ ghost use Rattle.mm_omap.proofs.Booking.{};
 ghost use Rattle.mm_omap.proofs.Taking.{};
 ghost use Rattle.mm_omap.specs.Left.{};
 
+mod chain;
 mod directory;
 mod leaf;
 mod span;

@@ -1,7 +1,8 @@
-//! Leaf pages and page 0, byte by byte: each rule broken once, and a leaf that is filled to its last byte.
+//! Leaf pages and page 0, byte by byte: each rule broken once, and a leaf that is filled to its last byte. Pages in memory.
 
 use mm_host::{Damage, Fault};
-use mm_page::{Header, Page};
+use mm_page::{Header, MemPages, Page, Pages};
+use std::alloc::Global;
 use std::test::Fail;
 
 // The leaf with the one entry of key 03 61 and value 00 00 00 00 00 00 00 01, and no next leaf.
@@ -156,4 +157,54 @@ fn page_0_has_the_bytes_of_the_format(rt: HostRuntime) {
         read(&bytes),
         Err((1, 0x4D4D_4B57_5047_3032, 0x4D4D_4B57_5047_3031))
     );
+}
+
+// The numbers of two fresh pages, and of one more after the first was freed; how many pages there are; and how often the
+// disk failed and found no memory.
+fn given_out(alloc: Global) -> Result<[u64; 5], Fault> {
+    let mut pages = MemPages::new(alloc);
+    let first = pages.fresh()?;
+    let second = pages.fresh()?;
+    pages.free(first)?;
+    let again = pages.fresh()?;
+    pages.commit()?;
+    pages.tick(1)?;
+    Ok([
+        first,
+        second,
+        again,
+        pages.count(),
+        pages.faults() + pages.wants(),
+    ])
+}
+
+// The number of the next leaf that a page was given, and what the header says before and after it was set.
+fn written(alloc: Global) -> Result<(u64, bool, [u64; 2]), Fault> {
+    let mut pages = MemPages::new(alloc);
+    let number = pages.fresh()?;
+    match pages.edit(number) {
+        Ok(page) => page.set_next(5),
+        Err(error) => return Err(error.into_fault()),
+    }
+    pages.settle(&[number])?;
+    let next = match pages.page(number) {
+        Ok(page) => page.next(),
+        Err(error) => return Err(error.into_fault()),
+    };
+    let none = pages.header()?.is_none();
+    pages.set_header(Header {
+        pages: pages.count(),
+        first: number,
+    })?;
+    match pages.header()? {
+        Some(header) => Ok((next, none, [header.pages, header.first])),
+        None => Ok((next, none, [0, 0])),
+    }
+}
+
+#[test]
+fn pages_in_memory_are_given_out_again(rt: HostRuntime) -> Result<(), Fail> {
+    assert_eq!(rt; given_out(rt.alloc())?, [1, 2, 1, 3, 0]);
+    assert_eq!(rt; written(rt.alloc())?, (5, true, [2, 1]));
+    Ok(())
 }
