@@ -1,0 +1,2 @@
+-- What proofs need besides the definitions.
+pub mod Spelled
