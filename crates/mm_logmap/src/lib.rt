@@ -2,3 +2,6 @@
 #![tactic(auto)]
 
 mod batch;
+mod opening;
+
+pub use opening::LogState;
