@@ -1,5 +1,5 @@
 // A sorted map in memory, in blocks of entries.
-ghost use Rattle.std.specs.Prelude.{◌≡◌, ◌≤◌, ◌<◌, ◌+◌, ◌-◌, ◌^◌, ◌⊎◌, ℕ, suc, [], ◌∷◌, length, take, drop, Some, option_map, slice_get, slice_index_or, true, remove, IfOk, IfSome, OnOk, OnErr};
+ghost use Rattle.std.specs.Prelude.{◌≡◌, ◌≤◌, ◌<◌, ◌+◌, ◌-◌, ◌^◌, ◌⊎◌, ◌↔◌, IsTrue, ℕ, suc, [], ◌∷◌, length, take, drop, Some, option_map, slice_get, slice_index_or, true, remove, IfOk, IfSome, OnOk, OnErr};
 ghost use Rattle.mm_keeper.specs.Entries.{HasRoom, IsSorted, Rises, IsBelow, rank, has, lookup, put, without, index_of, within, one_before, first_from, last_to, weight_of};
 ghost use Rattle.mm_keeper.specs.Blocks.{joined, AllSome, IsMap};
 ghost use Rattle.mm_keeper.specs.Places.{place_of};
@@ -139,6 +139,19 @@ fn entry_at(blocks: &[Block], spot: Spot) -> EntryRef<'_>
         key: item.key(),
         value: item.value(),
     }
+}
+
+// Whether an entry stands at a spot.
+fn stands(blocks: &[Block], spot: Spot) -> bool
+    ensures { IsTrue result ↔ (place_of blocks.now spot < length (joined blocks.now)) }
+{
+    if spot.block >= blocks.len() {
+        return false;
+    }
+    if spot.index >= blocks[spot.block].items().len() {
+        return false;
+    }
+    true
 }
 
 // The block into which an entry is put.
@@ -371,6 +384,13 @@ impl SortedMap {
         ensures { option_map (λ s. place_of self.now s) result ≡ one_before (place_of self.now spot) }
     {
         spot_before(self.blocks.as_slice(), spot)
+    }
+
+    /// Whether an entry stands at a spot.
+    pub fn stands(&self, spot: Spot) -> bool
+        ensures { IsTrue result ↔ (place_of self.now spot < length (joined self.now)) }
+    {
+        stands(self.blocks.as_slice(), spot)
     }
 
     /// Lends the key and the value of an entry.

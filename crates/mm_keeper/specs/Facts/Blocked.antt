@@ -1,5 +1,5 @@
 -- Blocks of entries: where a key is sought in them, and what stands at a place.
-use Rattle.std.proofs.Common.{◌≡◌, ℕ, zero, suc, ◌+◌, ◌-◌, ◌≤◌, ◌<◌, Bool, true, false, cond, List, [], ◌∷◌, ◌++◌, length, get_or, take, drop, Some, refl, sym, ap, ◌∙◌, subst, arith, append_assoc, true≢false, inl, inr}
+use Rattle.std.proofs.Common.{◌≡◌, ℕ, zero, suc, ◌+◌, ◌-◌, ◌≤◌, ◌<◌, Bool, true, false, cond, List, [], ◌∷◌, ◌++◌, length, length-append, get_or, take, drop, Some, refl, sym, ap, ◌∙◌, subst, arith, append_assoc, true≢false, inl, inr}
 use Rattle.std.specs.Prelude.{slice_get, nat_lt}
 use Rattle.std.specs.List.Sorted.{IsPartitionPoint, IsPartitionedBy}
 use Rattle.std.proofs.lemmas.Bool.{cases_lt}
@@ -295,3 +295,9 @@ front_less k (m ∷ bs) (suc i) h = AllBelow-app k m (joined (take i bs)) (AllBe
 pub last_seat : (k : List ℕ) (bs : Blocks) (i : ℕ) → IsAt bs k i → length bs ≤ i → AllBelow (joined (take (i - 1) bs)) k × IsBelow k (joined (drop (suc (i - 1)) bs))
 last_seat k bs i a l =
     (front_less k bs (i - 1) (subst (λ m. AllBelow m k) (take-all bs i l) a.front), subst (IsBelow k) (sym (drop-past bs (i - 1) (omega (arith, l)))) tt)
+
+pub place-inside : (bs : Blocks) (b i : ℕ) → b < length bs → i < length (get_or bs b []) → place_in bs b i < length (joined bs)
+place-inside bs b i l h =
+    let m = get_or bs b [] in
+    let rest = joined (drop (suc b) bs) in
+    omega (arith, place-at bs b i h, ap length (around bs b l), length-append (joined (take b bs)) (m ++ rest), length-append m rest, h)

@@ -1,0 +1,4 @@
+mod Changes
+mod Encoding
+mod Fitting
+mod Recording

@@ -1,0 +1,3 @@
+-- What proofs need besides the definitions.
+pub mod Spelled
+pub mod Sound

@@ -1,0 +1,4 @@
+pub mod Batches
+pub mod Log
+pub mod Inside
+pub mod Examples
