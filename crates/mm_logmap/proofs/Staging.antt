@@ -139,3 +139,7 @@ count-put staged staged' key value k v e = changes-more (length staged) (length 
 pub count-remove : (staged staged' key : List ℕ) (held : Bool) → (held ≡ true → length key ≤ 800) → staged' ≡ (if held then staged ++ encoded key None else staged) → changes_in (length staged') ≤ changes_in (length staged) + 1
 count-remove staged staged' key true k e = changes-more (length staged) (length staged') (omega (arith, k refl, ap length e, length-append staged (encoded key None), change-length key None))
 count-remove staged staged' key false k e = changes-more (length staged) (length staged') (omega (arith, ap length e))
+
+-- nothing is staged on a journal that stands for this map
+pub opened : (j : JournalState) (a : AreaState) (staged : List ℕ) (now : Entries) → IsAt j a → log a.now ≡ Whole now → staged ≡ [] → ∥ IsCurrent j a staged now ∥₁
+opened j a staged now at whole none = ∣ (at, record { kept = now; whole = whole; changes = []; fit = tt; spelled = none; makes = refl }) ∣₁

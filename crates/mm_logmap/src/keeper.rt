@@ -1,12 +1,18 @@
 // The keeper.
-ghost use Rattle.std.specs.Prelude.{◌≡◌};
+ghost use Rattle.std.specs.Prelude.{◌≡◌, [], IfOk, IfErr, false};
+ghost use Rattle.mm_host.specs.Disk.{MayLeave, image_now};
+ghost use Rattle.mm_host.specs.Moments.{LeavesOnly};
 ghost use Rattle.mm_keeper.specs.Blocks.{joined};
+ghost use Rattle.mm_journal.specs.Records.Read.{Whole, Wrong};
+ghost use Rattle.mm_journal.specs.Settled.{MayAnswer};
+ghost use Rattle.mm_logmap.specs.Log.{log};
 ghost use Rattle.mm_logmap.specs.Inside.Sound.{IsSoundAt};
 
 use crate::opening::LogState;
 use mm_host::{Disk, Fault};
 use mm_keeper::{EntryRef, Keeper, LendError, Spot};
 use mm_steps::Steps;
+use std::alloc::Global;
 use std::sync::ledger::Ledger;
 
 /// A keeper over a disk that is lent to it. The map is in memory; a commit adds the changes since the last one
@@ -25,6 +31,24 @@ impl<'d, D: Disk> LogKeeper<'d, D> {
         ensures state { result.state ≡ state }
     {
         LogKeeper { disk, state }
+    }
+
+    /// Opens the log of a disk: the keeper of the map for which its journal stands, or the first damage of the
+    /// journal's bytes. `LogState::open` and `over` do the same, and leave the disk known where that fails.
+    pub fn from_disk(alloc: Global, disk: &'d mut D) -> Result<LogKeeper<'d, D>, Fault>
+        ensures sound { IfOk result (λ k. IsSoundAt D.tells k.state.spent k.state.journal (D.state k.disk.now).journal k.state.staged.items (joined k.state.map)) }
+        ensures whole { D.tells → IfOk result (λ k. log (D.state disk.old).journal.now ≡ Whole (joined k.state.map)) }
+        ensures staged { IfOk result (λ k. k.state.staged.items ≡ []) }
+        ensures unspent { IfOk result (λ k. k.state.spent ≡ false) }
+        ensures device { IfOk result (λ k. k.disk.ghost_name ≡ disk.entry.ghost_name) }
+        ensures same { D.tells → IfOk result (λ k. image_now (D.state k.disk.now) ≡ image_now (D.state disk.old)) }
+        ensures any_moment { D.tells → IfOk result (λ k. LeavesOnly D.moment D.left_since disk.old k.disk.now (MayLeave (D.state disk.old))) }
+        ensures cause { IfErr result (MayAnswer (Unit {0}) (λ damage. D.tells → log (D.state disk.old).journal.now ≡ Wrong damage)) }
+    {
+        match LogState::open(alloc, disk) {
+            Ok(state) => Ok(LogKeeper::over(disk, state)),
+            Err(fault) => Err(fault),
+        }
     }
 
     /// Gives the disk back.
