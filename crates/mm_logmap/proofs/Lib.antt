@@ -2,3 +2,5 @@ mod Changes
 mod Encoding
 mod Fitting
 mod Recording
+mod Adding
+mod Staging

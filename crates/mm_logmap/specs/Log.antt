@@ -1,5 +1,6 @@
 -- The map for which a journal of batches stands.
-use Rattle.std.specs.Prelude.{ℕ, ◌+◌, List, [], ◌∷◌, Option, Some, None}
+use Rattle.std.specs.Prelude.{◌≡◌, ℕ, ◌+◌, List, [], ◌∷◌, Option, Some, None}
+use Rattle.std.specs.Option.{unwrap_or}
 use Rattle.mm_host.specs.Disk.{Image}
 use Rattle.mm_keeper.specs.Entries.{Entries}
 use Rattle.mm_journal.specs.Records.{Read, and_then, records, sorts}
@@ -28,3 +29,11 @@ whole_of (Wrong damage) = None
 -- The map for which a disk's bytes stand, if they stand for one. Area Pages says nothing.
 abbrev pub map_in : Image → Option Entries
 map_in i = whole_of (log i.journal)
+
+-- the map for which a journal stands; no entries where it stands for none
+abbrev pub kept_in : List ℕ → Entries
+kept_in journal = unwrap_or (whole_of (log journal)) []
+
+-- the maps for which the bytes stand that crashes since a moment left
+abbrev pub MapsSince : {D : Type 0} → (D → ℕ → Image → Type 0) → D → ℕ → Option Entries → Type 0
+MapsSince left_since d t m = (i : Image) × left_since d t i × (m ≡ map_in i)

@@ -1,5 +1,5 @@
 // Batches: the bytes of changes, written and read.
-ghost use Rattle.std.specs.Prelude.{◌≡◌, ◌≤◌, ◌<◌, ◌+◌, ◌++◌, ◌^◌, ℕ, List, Option, IsTrue, length, take, drop, OnOk, OnErr, IfOk, IfErr, Some, None};
+ghost use Rattle.std.specs.Prelude.{◌≡◌, ◌≤◌, ◌<◌, ◌+◌, ◌++◌, ◌^◌, ℕ, List, Option, IsTrue, true, length, take, drop, OnOk, OnErr, IfOk, IfErr, Some, None};
 ghost use Rattle.byteorder.specs.Endian.{big_bytes};
 ghost use Rattle.mm_host.specs.declared.damage.Damage.{Damage};
 ghost use Rattle.mm_host.specs.declared.damage.Fault.TheVariants as fault;
@@ -202,6 +202,7 @@ pub(crate) fn remove(map: &mut SortedMap, key: &[u8]) -> bool
     ensures told { result ≡ has (joined map.old) key.now }
     ensures sorted { IsSorted (joined map.new) }
     ensures fit { HasFitKeys (joined map.old) → HasFitKeys (joined map.new) }
+    ensures short { HasFitKeys (joined map.old) → result ≡ true → length key.now ≤ 800 }
 {
     map.remove(key).is_some()
 }

@@ -2,6 +2,9 @@
 #![tactic(auto)]
 
 mod batch;
+mod keeper;
 mod opening;
+mod state;
 
+pub use keeper::LogKeeper;
 pub use opening::LogState;

@@ -7,9 +7,10 @@ ghost use Rattle.mm_keeper.specs.Entries.{IsSorted};
 ghost use Rattle.mm_keeper.specs.Blocks.{joined};
 ghost use Rattle.mm_journal.specs.Records.{sorts};
 ghost use Rattle.mm_journal.specs.Records.Read.{Whole, Wrong};
-ghost use Rattle.mm_journal.specs.Settled.{IsAt, IsNear, MayAnswer};
+ghost use Rattle.mm_journal.specs.Settled.{IsNear, MayAnswer};
 ghost use Rattle.mm_logmap.specs.Log.{batches, map_of_records, log};
 ghost use Rattle.mm_logmap.specs.Inside.Spelled.{HasFitKeys};
+ghost use Rattle.mm_logmap.specs.Inside.Sound.{IsSoundAt};
 
 use crate::batch::replay;
 use mm_host::{Disk, Fault};
@@ -70,12 +71,9 @@ impl LogState {
     /// It writes nothing.
     pub fn open<D: Disk>(alloc: Global, disk: &mut D) -> Result<LogState, Fault>
         ensures whole { D.tells → IfOk result (λ s. log (D.state disk.old).journal.now ≡ Whole (joined s.map)) }
-        ensures at { D.tells → IfOk result (λ s. IsAt s.journal (D.state disk.new).journal) }
-        ensures unfailed { IfOk result (λ s. s.journal.has_failed ≡ false) }
+        ensures sound { IfOk result (λ s. IsSoundAt D.tells s.spent s.journal (D.state disk.new).journal s.staged.items (joined s.map)) }
         ensures staged { IfOk result (λ s. s.staged.items ≡ []) }
         ensures unspent { IfOk result (λ s. s.spent ≡ false) }
-        ensures sorted { IfOk result (λ s. IsSorted (joined s.map)) }
-        ensures fit { IfOk result (λ s. HasFitKeys (joined s.map)) }
         ensures same { D.tells → image_now (D.state disk.new) ≡ image_now (D.state disk.old) }
         ensures pages { D.tells → (D.state disk.new).pages ≡ (D.state disk.old).pages }
         ensures written { D.tells → (D.state disk.new).journal.written ≡ (D.state disk.old).journal.written }
