@@ -1,2 +1,0 @@
--- What the calls within this crate know.
-pub mod Runs
