@@ -14,3 +14,4 @@ pub mod Numbers
 pub mod Sizes
 pub mod TakingOut
 pub mod Rooming
+pub mod Targets

@@ -1,5 +1,10 @@
 -- What a plan says, and what it asks of a keeper.
-use Rattle.std.specs.Prelude.{◌≤◌, List, [], ◌∷◌, length}
+use Rattle.std.specs.Prelude.{◌≡◌, ◌≤◌, List, [], ◌∷◌, Option, Some, None, Result, Ok, Err, length}
+use Rattle.mm_host.specs.declared.damage.Fault.{Fault}
+use Rattle.mm_image.specs.Subtrees.{IsUndamaged}
+use Rattle.mm_tree.specs.declared.refusal.Refusal.{Refusal}
+use Rattle.mm_edit.specs.declared.plan.EditError.{EditError}
+use Rattle.mm_edit.specs.declared.plan.EditError.TheVariants as error
 use Rattle.mm_keeper.specs.Entries.{Entry, Entries, HasRoom, put}
 use Rattle.mm_tree.specs.declared.forest.Done.{Done}
 use Rattle.mm_edit.specs.Difference.{Key, without_all}
@@ -26,3 +31,14 @@ HaveRoom m (e ∷ es) = HasRoom m e.0 e.1 × HaveRoom (put m e.0 e.1) es
 -- the plan's puts have room in the map, once its removes are done
 abbrev pub HasRoomFor : Entries → Planned → Type 0
 HasRoomFor m plan = HaveRoom (without_all plan.removes m) plan.puts
+
+-- the refusal is this one; another error tells no damage
+abbrev pub IsRefusedBy : Option Refusal → EditError → Type 0
+IsRefusedBy refusal (error.Refused r) = refusal ≡ Some r
+IsRefusedBy refusal (error.Fault f) = IsUndamaged f
+
+-- the fault of a plan that couldn't be made
+abbrev pub edit_fault : {T : Type 0} → Result T EditError → Option Fault
+edit_fault (Ok plan) = None
+edit_fault (Err (error.Refused r)) = None
+edit_fault (Err (error.Fault f)) = Some f

@@ -3,10 +3,12 @@
 
 mod carrying;
 mod counting;
+mod deleting;
 mod differing;
 pub mod laws;
 mod plan;
 mod taking_out;
 
 pub use carrying::carry_out;
+pub use deleting::plan_delete;
 pub use plan::{EditError, Plan};

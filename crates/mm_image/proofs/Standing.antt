@@ -106,7 +106,7 @@ stored_of : (es : List Labelled) → ((d : Labelled) → Within d es → IsLabel
 stored_of [] l k = tt
 stored_of (e ∷ es) l k = (l e (inl refl), k e (inl refl), stored_of es (λ d w. l d (inr w)) (λ d w. k d (inr w)))
 
-stored_label : (es : List Labelled) → CanBeStored es → (d : Labelled) → Within d es → IsLabel d.label
+pub stored_label : (es : List Labelled) → CanBeStored es → (d : Labelled) → Within d es → IsLabel d.label
 stored_label [] s d w = absurd w
 stored_label (e ∷ es) s d w = elim w [ inl h ↦ subst (λ (z : Labelled). IsLabel z.label) (sym h) s.0 | inr h ↦ stored_label es s.2 d h ]
 

@@ -1,6 +1,6 @@
 //! The subtree at a label, read from a map's entries.
 
-ghost use Rattle.std.specs.Prelude.{◌≡◌, ◌∷◌, ◌≤◌, ◌<◌, ◌+◌, [], Some, false, IfOk, IfErr, IfSome, OnOk, MatchResult, is_some, length, nat_eq, option_map, slice_get};
+ghost use Rattle.std.specs.Prelude.{true, ◌≡◌, ◌∷◌, ◌≤◌, ◌<◌, ◌+◌, [], Some, false, IfOk, IfErr, IfSome, OnOk, MatchResult, is_some, length, nat_eq, option_map, slice_get};
 ghost use Rattle.std.specs.List.{starts_with};
 ghost use Rattle.mm_keeper.specs.Entries.{Entry, has};
 ghost use Rattle.mm_keeper.specs.Keeping.{fault_of};
@@ -11,7 +11,7 @@ ghost use Rattle.mm_tree.specs.Numbering.{Labelled, node_of};
 ghost use Rattle.mm_tree.specs.Trees.{Trees};
 ghost use Rattle.mm_image.specs.Ground.{Accounts, HoldsImage, SameGround};
 ghost use Rattle.mm_image.specs.Keys.{chunk_key};
-ghost use Rattle.mm_image.specs.Subtrees.{IsSubtree, IsUndamaged, NamesKey, at_or_below, run_of};
+ghost use Rattle.mm_image.specs.Subtrees.{is_subtree, IsSubtree, IsUndamaged, NamesKey, at_or_below, run_of};
 ghost use Rattle.mm_image.specs.Inside.Gathered.{AreGroups, Tells, gathered};
 ghost use Rattle.mm_image.specs.Inside.Rebuilding.{bared};
 ghost use Rattle.mm_image.specs.Inside.Running.{Gathers, GoesOn, Looks, LooksAt, Reaches, StopsAt, TreeAt, left_at};
@@ -186,6 +186,7 @@ fn from_first<K: Keeper, L: Ledger>(
 ) -> Result<Node, Fault>
     requires sound { K.is_sound keeper.old }
     requires stands { K.has_maps keeper.old → (K.seen keeper.old).place spot < length (K.seen keeper.old).now }
+    ensures tree { IfOk result (λ node. is_subtree label.now (node_of node) ≡ true) }
     ensures node { K.has_maps keeper.old → IfOk result (λ node. IsSubtree label.now (node_of node) (left_at (bytes_of label.now) (K.seen keeper.old).now (Some ((K.seen keeper.old).place spot)))) }
     ensures damaged { K.has_maps keeper.old → IfErr result (NamesKey label.now (left_at (bytes_of label.now) (K.seen keeper.old).now (Some ((K.seen keeper.old).place spot)))) }
     ensures cost { K.has_maps keeper.old → steps.new ≤ steps.old + length (left_at (bytes_of label.now) (K.seen keeper.old).now (Some ((K.seen keeper.old).place spot))) }
@@ -207,6 +208,7 @@ fn reach<K: Keeper, L: Ledger>(
     steps: &mut Steps<L>,
 ) -> Result<Option<Node>, Fault>
     requires { K.is_sound keeper.old }
+    ensures tree { IfOk result (λ node. IfSome node (λ n. is_subtree label.now (node_of n) ≡ true)) }
     ensures reaches { K.has_maps keeper.old → Reaches label.now (K.seen keeper.old).now steps.old steps.new result }
     ensures ground { SameGround K.over K.has_maps K.tells K.seen K.written K.changes K.moment K.left_since keeper.old keeper.new }
     ensures accounts { Accounts K.is_sound K.is_spent K.fault_count K.want_count keeper.old keeper.new (fault_of result) }
@@ -227,6 +229,7 @@ pub fn subtree<K: Keeper, L: Ledger>(
     steps: &mut Steps<L>,
 ) -> Result<Option<Node>, Fault>
     requires { K.is_sound keeper.old }
+    ensures tree { IfOk result (λ node. IfSome node (λ n. is_subtree label.now (node_of n) ≡ true)) }
     ensures some { K.has_maps keeper.old → IfOk result (λ node. is_some node ≡ has (K.seen keeper.old).now (chunk_key label.now 0)) }
     ensures node { K.has_maps keeper.old → IfOk result (λ node. IfSome node (λ n. IsSubtree label.now (node_of n) (run_of label.now (K.seen keeper.old).now))) }
     ensures damaged { K.has_maps keeper.old → IfErr result (NamesKey label.now (at_or_below label.now (K.seen keeper.old).now)) }
