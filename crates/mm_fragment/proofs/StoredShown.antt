@@ -25,14 +25,16 @@ use Rattle.mm_image.specs.Laws.{FirstPieceNames}
 use Rattle.mm_image.specs.Facts.Finding.{IsAt, at_found, same_key}
 use Rattle.mm_image.specs.Looking.{entry_at}
 use Rattle.mm_image.specs.Facts.Members.{chunk_in, node_is_valid}
+use Rattle.mm_fragment.specs.Inside.Keeping.{AreMasks}
 use Rattle.mm_fragment.specs.Inside.Marked.{Rowed, marked}
 use Rattle.mm_fragment.specs.Inside.Owning.{Precedes, marked_words}
 use Rattle.mm_fragment.specs.Matching.{open_nodes, matches_of}
 use Rattle.mm_fragment.specs.Showing.{named_in, shown_at}
-use Rattle.mm_fragment.specs.Inside.Stored.{name_of_entry, stored_name, stored_shown}
+use Rattle.mm_fragment.specs.Inside.Stored.{stored_shown}
+use Rattle.mm_fragment.specs.Stored.{name_of_entry, stored_name}
 use Rattle.mm_fragment.proofs.LinkForest.{found_is}
 use Rattle.mm_fragment.proofs.LinkFragment.{no_marks, named_in_forest, root_meets, shown_there}
-use Rattle.mm_fragment.proofs.LinkMasks.{AreMasks, matches_at, marked_tree, masks_are, of_coded, open_is}
+use Rattle.mm_fragment.proofs.LinkMasks.{matches_at, marked_tree, masks_are, of_coded, open_is}
 use Rattle.mm_fragment.proofs.LinkPaths.{Word}
 use Rattle.mm_fragment.proofs.MarkedOpen.{cleared, cleared_formed, cleared_thins, marked_is, words_in}
 use Rattle.mm_fragment.proofs.Owned.{Ascending, marks_are_own, matches_precede, within_kept}

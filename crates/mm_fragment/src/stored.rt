@@ -4,12 +4,13 @@
 ghost use Rattle.std.specs.Prelude.{◌≡◌, ◌+◌, ◌≤◌, ◌<◌, ◌∷◌, [], Some, IfOk, IfErr, length, map, slice_get};
 ghost use Rattle.mm_fragment.specs.Inside.Owning.{Precedes};
 ghost use Rattle.mm_fragment.specs.Inside.Piling.{roots};
-ghost use Rattle.mm_fragment.specs.Inside.Stored.{BlamesNames, IsUndamaged, name_of_entry, stored_name, stored_shown};
+ghost use Rattle.mm_fragment.specs.Inside.Stored.{BlamesNames, stored_shown};
+ghost use Rattle.mm_fragment.specs.Stored.{name_of_entry, stored_name};
 ghost use Rattle.mm_image.specs.Looking.{entry_at};
 ghost use Rattle.mm_keeper.specs.Entries.{index_of};
 ghost use Rattle.mm_image.specs.Ground.{SameGround};
 ghost use Rattle.mm_label.specs.Fronts.{Ordered};
-ghost use Rattle.mm_lists.specs.Causes.{Caused};
+ghost use Rattle.mm_lists.specs.Causes.{Caused, IsSound};
 ghost use Rattle.mm_match.specs.Marks.{labels};
 ghost use Rattle.mm_tree.specs.Fragments.{fragment_tree};
 ghost use Rattle.mm_tree.specs.Trees.{none};
@@ -32,7 +33,7 @@ fn name_at<K: Keeper>(alloc: Global, keeper: &mut K, spot: K::Spot) -> Result<Op
     requires sound { K.is_sound keeper.old }
     requires stands { K.has_maps keeper.old → (K.seen keeper.old).place spot < length (K.seen keeper.old).now }
     ensures name { K.has_maps keeper.old → IfOk result (λ n. n ≡ name_of_entry (slice_get (K.seen keeper.old).now ((K.seen keeper.old).place spot))) }
-    ensures undamaged { K.has_maps keeper.old → IfErr result IsUndamaged }
+    ensures undamaged { K.has_maps keeper.old → IfErr result IsSound }
     ensures sound { K.is_sound keeper.new }
     ensures ground { SameGround K.over K.has_maps K.tells K.seen K.written K.changes K.moment K.left_since keeper.old keeper.new }
     ensures cause { Caused (K.fault_count keeper.old) (K.fault_count keeper.new) (K.is_spent keeper.old) (K.is_spent keeper.new) result }
@@ -53,7 +54,7 @@ fn find_name<K: Keeper, L: Ledger>(
 ) -> Result<Option<Text>, Fault>
     requires sound { K.is_sound keeper.old }
     ensures name { K.has_maps keeper.old → IfOk result (λ n. n ≡ name_of_entry (entry_at (K.seen keeper.old).now (index_of (K.seen keeper.old).now key.now))) }
-    ensures undamaged { K.has_maps keeper.old → IfErr result IsUndamaged }
+    ensures undamaged { K.has_maps keeper.old → IfErr result IsSound }
     ensures sound { K.is_sound keeper.new }
     ensures ground { SameGround K.over K.has_maps K.tells K.seen K.written K.changes K.moment K.left_since keeper.old keeper.new }
     ensures cause { Caused (K.fault_count keeper.old) (K.fault_count keeper.new) (K.is_spent keeper.old) (K.is_spent keeper.new) result }
