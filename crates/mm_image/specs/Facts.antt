@@ -5,3 +5,4 @@ pub mod Upto
 pub mod Finding
 pub mod LabelOrder
 pub mod Grounds
+pub mod Naming
