@@ -5,3 +5,5 @@ pub mod Upto
 pub mod Finding
 pub mod LabelOrder
 pub mod Grounds
+pub mod Pieces
+pub mod Standing
