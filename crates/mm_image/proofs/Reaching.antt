@@ -48,7 +48,8 @@ use Rattle.mm_image.proofs.Determined.{OneLabel, chunk_of, first_chunk, some_pie
 use Rattle.mm_image.proofs.KeyFacts.{same_front}
 use Rattle.mm_image.proofs.Groups.{nodes_gathered, same_groups, same_nodes, stored_groups}
 use Rattle.mm_image.proofs.Rising.{counts_headed, occurrences_headed}
-use Rattle.mm_image.proofs.Standing.{is_standing, node_parts, rebuilt_tree, stands, stands_in, stored_tree}
+use Rattle.mm_image.specs.Facts.Standing.{is_standing, stands, stands_in}
+use Rattle.mm_image.proofs.Standing.{node_parts, rebuilt_tree, stored_tree}
 use Rattle.mm_image.proofs.Walking.{begins_not, begins_of}
 
 -- ---- entries that are sought by a test

@@ -6,3 +6,5 @@ pub mod Finding
 pub mod LabelOrder
 pub mod Grounds
 pub mod Naming
+pub mod Pieces
+pub mod Standing
