@@ -15,3 +15,7 @@ pub mod Sizes
 pub mod TakingOut
 pub mod Rooming
 pub mod Targets
+pub mod Nearest
+pub mod Seeks
+pub mod Siting
+pub mod Below
