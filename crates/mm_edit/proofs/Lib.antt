@@ -19,3 +19,5 @@ pub mod Nearest
 pub mod Seeks
 pub mod Siting
 pub mod Below
+pub mod Targeting
+pub mod Numbered

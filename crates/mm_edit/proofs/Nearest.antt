@@ -116,14 +116,18 @@ pub first_is : (ns : List Label) (y : Label) (P : Label → Type 0) (ts : Trees 
     → ((d : Label) → Within d ns → IsUnder y d → P d → Within d (labels_of ts)) → IsRight ns y P (first_label ts)
 first_is ns y P none u m p = λ d i j q. p d i j q
 first_is ns y P (node e inner rest) u m p =
-    let h = m e.label (inl refl) in
-    (u.0, h.0, h.1, λ d i j q. elim (among d e inner rest (p d i j q)) [
-      | inl r ↦ subst (Le e.label) (sym r) (front_le e.label e.label (front_refl e.label))
-      | inr r ↦ elim r [
-        | inl s ↦ front_le e.label d (under d e.label inner u.1 s).0
-        | inr s ↦ (apart e.label d y rest u.3 u.2 s).0
-      ]
-    ])
+    let h = m e.label (inl refl) in (
+      u.0,
+      h.0,
+      h.1,
+      λ d i j q. elim (among d e inner rest (p d i j q)) [
+        | inl r ↦ subst (Le e.label) (sym r) (front_le e.label e.label (front_refl e.label))
+        | inr r ↦ elim r [
+          | inl s ↦ front_le e.label d (under d e.label inner u.1 s).0
+          | inr s ↦ (apart e.label d y rest u.3 u.2 s).0
+        ]
+      ],
+    )
 
 last_at : (ns : List Label) (y : Label) (P : Label → Type 0) (l : Option Label) (ts : Trees Labelled) → Formed node_label y ts → ((d : Label) → Within d (labels_of ts) → Within d ns) → ((d : Label) → IsUnder y d → P d)
     → Behind ns y l ts → Passed ns y l ts → IsLeft ns y P (last_label l ts)
@@ -172,9 +176,13 @@ gap_here : (place : Place) (ns : List Label) (y : Label) (l : Option Label) (e :
     → ((d : Label) → Within d (labels_of inner) → Within d ns) → ((d : Label) → Within d (labels_of rest) → Within d ns)
     → Behind ns y l (node e inner rest) → Passed ns y l (node e inner rest) → whole y ≡ y → IsAround ns place e.label (gap_at place y l e inner rest)
 gap_here Before ns y l e inner rest u m n b p v = (u.0, left_at ns y l e inner rest u b p, refl, v)
-gap_here After ns y l e inner rest u m n b p v =
-    (u.0, refl, first_is ns y (λ d. Apart e.label d) rest u.3 (λ d w. (n d w, apart e.label d y rest u.3 u.2 w))
-    (λ d i j q. elim (passed_on ns y l e inner rest u b p d i j) [ inl r ↦ r | inr r ↦ absurd (r q) ]), v)
+gap_here After ns y l e inner rest u m n b p v = (
+  u.0,
+  refl,
+  first_is ns y (λ d. Apart e.label d) rest u.3 (λ d w. (n d w, apart e.label d y rest u.3 u.2 w))
+      (λ d i j q. elim (passed_on ns y l e inner rest u b p d i j) [ inl r ↦ r | inr r ↦ absurd (r q) ]),
+  v,
+)
 gap_here First ns y l e inner rest u m n b p v =
     (refl, refl, first_is ns e.label (λ d. Lt e.label d) inner u.1 (λ d w. (m d w, let t = under d e.label inner u.1 w in lt_below e.label d t.0 t.1)) (λ d i j q. below_only ns y l e inner rest u b p d i j))
 gap_here Last ns y l e inner rest u m n b p v =

@@ -109,8 +109,8 @@ module _ (order : ByteOrder) (ancestry : Ancestry) where
   past_of x d n g h u = (
     at_or_after x d n (1 ∷ bytes_of x ++ 255 ∷ []) g h (inr (refl, upto_front (bytes_of x) (0 ∷ big_bytes 4 0) (255 ∷ []) (inl (omega arith)))) u,
     λ f. let r = (splits x d).0 f in
-    below_last r.0 (big_bytes 4 n) (upto_cancel (1 ∷ bytes_of x) (255 ∷ []) (bytes_of r.0 ++ 0 ∷ big_bytes 4 n)
-    (subst (λ (z : List ℕ). UpTo (1 ∷ bytes_of x ++ 255 ∷ []) (1 ∷ z)) (goes_on x d r.0 (0 ∷ big_bytes 4 n) r.1) u)),
+        below_last r.0 (big_bytes 4 n) (upto_cancel (1 ∷ bytes_of x) (255 ∷ []) (bytes_of r.0 ++ 0 ∷ big_bytes 4 n)
+        (subst (λ (z : List ℕ). UpTo (1 ∷ bytes_of x ++ 255 ∷ []) (1 ∷ z)) (goes_on x d r.0 (0 ∷ big_bytes 4 n) r.1) u)),
   )
 
   -- ---- behind x: 01, its bytes, 01
@@ -136,19 +136,22 @@ module _ (order : ByteOrder) (ancestry : Ancestry) where
   -- ---- before x: 01, its bytes
 
   pub before_to : (x d : Label) (n : ℕ) → IsLabel x → IsLabel d → Lt d x → UpTo (chunk_key d n) (1 ∷ bytes_of x)
-  before_to x d n g h l = inr (refl, elim (front_cases d x) [
-    | inl f ↦
-        let r = (splits d x).0 f in
-        subst (UpTo (bytes_of d ++ 0 ∷ big_bytes 4 n)) (sym (joined_bytes d x r.0 r.1)) (upto_front (bytes_of d) (0 ∷ big_bytes 4 n) (bytes_of r.0) (above_zero r.0 (big_bytes 4 n) (proper d x r.0 l.1 r.1)))
-    | inr f ↦ upto_behind (bytes_of d) (0 ∷ big_bytes 4 n) (bytes_of x) (upto_label order d x h g (inr (lt_before d x l))) (λ r e. f ((ancestry d x h g).0 (r, e)))
-  ])
+  before_to x d n g h l = inr (
+    refl,
+    elim (front_cases d x) [
+      | inl f ↦
+          let r = (splits d x).0 f in
+          subst (UpTo (bytes_of d ++ 0 ∷ big_bytes 4 n)) (sym (joined_bytes d x r.0 r.1)) (upto_front (bytes_of d) (0 ∷ big_bytes 4 n) (bytes_of r.0) (above_zero r.0 (big_bytes 4 n) (proper d x r.0 l.1 r.1)))
+      | inr f ↦ upto_behind (bytes_of d) (0 ∷ big_bytes 4 n) (bytes_of x) (upto_label order d x h g (inr (lt_before d x l))) (λ r e. f ((ancestry d x h g).0 (r, e)))
+    ],
+  )
 
   pub before_of : (x d : Label) (n : ℕ) → IsLabel x → IsLabel d → UpTo (chunk_key d n) (1 ∷ bytes_of x) → Lt d x
   before_of x d n g h u =
-    let v = upto_cancel (1 ∷ []) (bytes_of d ++ 0 ∷ big_bytes 4 n) (bytes_of x) u in (
-      le_of d x (label_upto order d x h g (upto_more (bytes_of d) (0 ∷ big_bytes 4 n) (bytes_of x) v)),
-      λ e. no_longer (bytes_of x) (big_bytes 4 n) 0 (subst (λ (z : Label). UpTo (bytes_of z ++ 0 ∷ big_bytes 4 n) (bytes_of x)) e v),
-    )
+      let v = upto_cancel (1 ∷ []) (bytes_of d ++ 0 ∷ big_bytes 4 n) (bytes_of x) u in (
+        le_of d x (label_upto order d x h g (upto_more (bytes_of d) (0 ∷ big_bytes 4 n) (bytes_of x) v)),
+        λ e. no_longer (bytes_of x) (big_bytes 4 n) 0 (subst (λ (z : Label). UpTo (bytes_of z ++ 0 ∷ big_bytes 4 n) (bytes_of x)) e v),
+      )
 
   -- ---- not past all of y: 01, its bytes, FF; all labels without a y
 
@@ -157,8 +160,8 @@ module _ (order : ByteOrder) (ancestry : Ancestry) where
 
   pub within_of : (y d : Label) (n : ℕ) → IsLabel y → IsLabel d → UpTo (chunk_key d n) (1 ∷ bytes_of y ++ 255 ∷ []) → Apart y d → ⊥
   within_of y d n g h u a =
-    no_longer (bytes_of d) (big_bytes 4 n) 0
-    (upto_trans (bytes_of d ++ 0 ∷ big_bytes 4 n) (bytes_of y ++ 255 ∷ []) (bytes_of d) (upto_cancel (1 ∷ []) (bytes_of d ++ 0 ∷ big_bytes 4 n) (bytes_of y ++ 255 ∷ []) u) (past_upto order ancestry y d g h (apart_past y d a)))
+      no_longer (bytes_of d) (big_bytes 4 n) 0
+      (upto_trans (bytes_of d ++ 0 ∷ big_bytes 4 n) (bytes_of y ++ 255 ∷ []) (bytes_of d) (upto_cancel (1 ∷ []) (bytes_of d ++ 0 ∷ big_bytes 4 n) (bytes_of y ++ 255 ∷ []) u) (past_upto order ancestry y d g h (apart_past y d a)))
 
   pub top_to : (d : Label) (n : ℕ) → UpTo (chunk_key d n) (1 ∷ 255 ∷ [])
   top_to d n = elim (either (chunk_key d n) (1 ∷ 255 ∷ [])) [ inl u ↦ u | inr u ↦ absurd (below_last d (big_bytes 4 n) (upto_cancel (1 ∷ []) (255 ∷ []) (bytes_of d ++ 0 ∷ big_bytes 4 n) u)) ]
@@ -179,27 +182,27 @@ module _ (order : ByteOrder) (ancestry : Ancestry) where
 
   pub label_told : (f : Trees Labelled) (e : Entry) (z : Label) (n : ℕ) → IsTrue (is_well_formed f) → Within e (image f) → IsLabel z → e.0 ≡ chunk_key z n → Within z (labels_of f)
   label_told f e z n w i g q =
-    let t = node_of_key f e (bytes_of z ++ 0 ∷ big_bytes 4 n) i q in
-    let h = node_is_labelled f w t.0 t.1 in
-    let s : chunk_key z n ≡ chunk_key (t.0).label t.2.0 = sym q ∙ t.2.1 in
-    let k : z ≡ (t.0).label = le_antisym z (t.0).label (chunk_le z (t.0).label n t.2.0 g h (subst (UpTo (chunk_key z n)) s (upto_refl (chunk_key z n))))
+      let t = node_of_key f e (bytes_of z ++ 0 ∷ big_bytes 4 n) i q in
+      let h = node_is_labelled f w t.0 t.1 in
+      let s : chunk_key z n ≡ chunk_key (t.0).label t.2.0 = sym q ∙ t.2.1 in
+      let k : z ≡ (t.0).label = le_antisym z (t.0).label (chunk_le z (t.0).label n t.2.0 g h (subst (UpTo (chunk_key z n)) s (upto_refl (chunk_key z n))))
       (chunk_le (t.0).label z t.2.0 n h g (subst (λ (y : List ℕ). UpTo y (chunk_key z n)) s (upto_refl (chunk_key z n)))) in
-    subst (λ (y : Label). Within y (labels_of f)) (sym k) (in_within node_label t.0 (preorder f) t.1)
+      subst (λ (y : Label). Within y (labels_of f)) (sym k) (in_within node_label t.0 (preorder f) t.1)
 
   -- the first piece of the node with the label
   node_piece : (f : Trees Labelled) (d : Label) → IsTrue (is_well_formed f) → Within d (labels_of f) → IsLabel d × ((v : List ℕ) × Within {A = Entry} (chunk_key d 0, v) (image f))
   node_piece f d w i =
-    let t = within_in node_label d (preorder f) i in
-    subst (λ (z : Label). IsLabel z × ((v : List ℕ) × Within {A = Entry} (chunk_key z 0, v) (image f))) (sym t.2) (node_is_labelled f w t.0 t.1, (piece (t.0).kind 0, chunk_in f t.0 t.1))
+      let t = within_in node_label d (preorder f) i in
+      subst (λ (z : Label). IsLabel z × ((v : List ℕ) × Within {A = Entry} (chunk_key z 0, v) (image f))) (sym t.2) (node_is_labelled f w t.0 t.1, (piece (t.0).kind 0, chunk_in f t.0 t.1))
 
   pub first_told : (f : Trees Labelled) (P : Label → Type 0) (k : List ℕ) → IsTrue (is_well_formed f) → ((d : Label) (n : ℕ) → IsLabel d → P d → UpTo (1 ∷ k) (chunk_key d n))
       → ((d : Label) (n : ℕ) → IsLabel d → UpTo (1 ∷ k) (chunk_key d n) → P d) → (found : Option Entry) (o : Option Label) → IsUp (image f) (1 ∷ k) found → TellsLabel found o → IsFirst (labels_of f) P o
   first_told f P k w to from None None u t = λ d i p. let m = node_piece f d w i in u (chunk_key d 0, m.1.0) m.1.1 (to d 0 m.0 p)
   first_told f P k w to from None (Some z) u t = absurd cc
   first_told f P k w to from (Some e) None u t = λ d i p.
-    let m = node_piece f d w i in
-    let r = one_first k e.0 (bytes_of d ++ 0 ∷ big_bytes 4 0) u.1 (u.2 (chunk_key d 0, m.1.0) m.1.1 (to d 0 m.0 p)) in
-    t r.0 r.1
+      let m = node_piece f d w i in
+      let r = one_first k e.0 (bytes_of d ++ 0 ∷ big_bytes 4 0) u.1 (u.2 (chunk_key d 0, m.1.0) m.1.1 (to d 0 m.0 p)) in
+      t r.0 r.1
   first_told f P k w to from (Some e) (Some z) u t = (
     label_told f e z t.1.0 w u.0 t.0 t.1.1,
     from z t.1.0 t.0 (subst (UpTo (1 ∷ k)) t.1.1 u.1),
@@ -211,9 +214,9 @@ module _ (order : ByteOrder) (ancestry : Ancestry) where
   last_told f P k w to from None None u t = λ d i p. let m = node_piece f d w i in u (chunk_key d 0, m.1.0) m.1.1 (to d 0 m.0 p)
   last_told f P k w to from None (Some z) u t = absurd cc
   last_told f P k w to from (Some e) None u t = λ d i p.
-    let m = node_piece f d w i in
-    let r = one_first (bytes_of d ++ 0 ∷ big_bytes 4 0) e.0 k (u.2 (chunk_key d 0, m.1.0) m.1.1 (to d 0 m.0 p)) u.1 in
-    t r.0 r.1
+      let m = node_piece f d w i in
+      let r = one_first (bytes_of d ++ 0 ∷ big_bytes 4 0) e.0 k (u.2 (chunk_key d 0, m.1.0) m.1.1 (to d 0 m.0 p)) u.1 in
+      t r.0 r.1
   last_told f P k w to from (Some e) (Some z) u t = (
     label_told f e z t.1.0 w u.0 t.0 t.1.1,
     from z t.1.0 t.0 (subst (λ (y : List ℕ). UpTo y (1 ∷ k)) t.1.1 u.1),

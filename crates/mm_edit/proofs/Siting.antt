@@ -103,28 +103,28 @@ module _ (order : ByteOrder) (ancestry : Ancestry) where
   pub gap_before : (x p : Label) (f : Trees Labelled) (m : Entries) (key : List ℕ) (o : Option Label) → IsTrue (is_well_formed f) → has_node x f ≡ true → IsLabel x → IsChild p x → whole p ≡ p
       → m ≡ image f → IsSorted m → key ≡ 1 ∷ bytes_of x ++ [] → FindsChild p (entry_at m (last_to m key)) o → gap Before x [] None f ≡ record { parent = p; left = kept_before x o; right = Some x }
   gap_before x p f m key o w h g c v e s q t =
-    let ns = labels_of f in
-    let a = gap_around Before x f (formed f w) h in
-    let here : (gap Before x [] None f).parent ≡ p = sym (parent_of_child (gap Before x [] None f).parent x a.3 a.0) ∙ parent_of_child p x v c in
-    let l = subst (λ (y : Label). IsLeft ns y (λ d. Lt d x) (gap Before x [] None f).left) here a.1 in
-    let last = last_told order ancestry f (λ d. Lt d x) (bytes_of x) w (λ d n i b. before_to order ancestry x d n g i b) (λ d n i u. before_of order ancestry x d n g i u) (entry_at m (last_to m key)) t.label
+      let ns = labels_of f in
+      let a = gap_around Before x f (formed f w) h in
+      let here : (gap Before x [] None f).parent ≡ p = sym (parent_of_child (gap Before x [] None f).parent x a.3 a.0) ∙ parent_of_child p x v c in
+      let l = subst (λ (y : Label). IsLeft ns y (λ d. Lt d x) (gap Before x [] None f).left) here a.1 in
+      let last = last_told order ancestry f (λ d. Lt d x) (bytes_of x) w (λ d n i b. before_to order ancestry x d n g i b) (λ d n i u. before_of order ancestry x d n g i u) (entry_at m (last_to m key)) t.label
       (down_in f m key (1 ∷ bytes_of x) e s (q ∙ ap (λ (z : List ℕ). 1 ∷ z) (append-nil (bytes_of x)))) t.told in
-    let is = left_found ns p (λ d. Lt d x) (gap Before x [] None f).left t.label o l last (λ k z u b d. before_stays p x k z c u b d) t.leads in
-    let kept = is ∙ kept_left ns p x o (subst (IsLeft ns p (λ d. Lt d x)) is l) in
-    λ i. record { parent = here i; left = kept i; right = a.2 i }
+      let is = left_found ns p (λ d. Lt d x) (gap Before x [] None f).left t.label o l last (λ k z u b d. before_stays p x k z c u b d) t.leads in
+      let kept = is ∙ kept_left ns p x o (subst (IsLeft ns p (λ d. Lt d x)) is l) in
+      λ i. record { parent = here i; left = kept i; right = a.2 i }
 
   pub gap_after : (x p : Label) (f : Trees Labelled) (m : Entries) (key : List ℕ) (o : Option Label) → IsTrue (is_well_formed f) → has_node x f ≡ true → IsLabel x → IsChild p x → whole p ≡ p
       → m ≡ image f → IsSorted m → key ≡ 1 ∷ bytes_of x ++ 255 ∷ [] → FindsChild p (entry_at m (first_from m key)) o → gap After x [] None f ≡ record { parent = p; left = Some x; right = kept_after x o }
   gap_after x p f m key o w h g c v e s q t =
-    let ns = labels_of f in
-    let a = gap_around After x f (formed f w) h in
-    let here : (gap After x [] None f).parent ≡ p = sym (parent_of_child (gap After x [] None f).parent x a.3 a.0) ∙ parent_of_child p x v c in
-    let r = subst (λ (y : Label). IsRight ns y (λ d. Apart x d) (gap After x [] None f).right) here a.2 in
-    let first = first_told order ancestry f (λ d. Apart x d) (bytes_of x ++ 255 ∷ []) w (λ d n i b. past_to order ancestry x d n g i b) (λ d n i u. past_of order ancestry x d n g i u) (entry_at m (first_from m key)) t.label
+      let ns = labels_of f in
+      let a = gap_around After x f (formed f w) h in
+      let here : (gap After x [] None f).parent ≡ p = sym (parent_of_child (gap After x [] None f).parent x a.3 a.0) ∙ parent_of_child p x v c in
+      let r = subst (λ (y : Label). IsRight ns y (λ d. Apart x d) (gap After x [] None f).right) here a.2 in
+      let first = first_told order ancestry f (λ d. Apart x d) (bytes_of x ++ 255 ∷ []) w (λ d n i b. past_to order ancestry x d n g i b) (λ d n i u. past_of order ancestry x d n g i u) (entry_at m (first_from m key)) t.label
       (up_in f m key (1 ∷ bytes_of x ++ 255 ∷ []) e s q) t.told in
-    let is = right_found ns p (λ d. Apart x d) (gap After x [] None f).right t.label o r first (λ k z u b d. after_stays p x k z c u b d) t.leads in
-    let kept = is ∙ kept_right ns p x o (subst (IsRight ns p (λ d. Apart x d)) is r) in
-    λ i. record { parent = here i; left = a.1 i; right = kept i }
+      let is = right_found ns p (λ d. Apart x d) (gap After x [] None f).right t.label o r first (λ k z u b d. after_stays p x k z c u b d) t.leads in
+      let kept = is ∙ kept_right ns p x o (subst (IsRight ns p (λ d. Apart x d)) is r) in
+      λ i. record { parent = here i; left = a.1 i; right = kept i }
 
   label_there : (x : Label) (f : Trees Labelled) → IsTrue (is_well_formed f) → has_node x f ≡ true → IsLabel x
   label_there x f w h = let t = node_found x f h in subst IsLabel t.3 (node_is_labelled f w (t.0).0 t.2)
@@ -132,34 +132,34 @@ module _ (order : ByteOrder) (ancestry : Ancestry) where
   pub gap_first : (x : Label) (f : Trees Labelled) (m : Entries) (key : List ℕ) (o : Option Label) → IsTrue (is_well_formed f) → has_node x f ≡ true
       → m ≡ image f → IsSorted m → key ≡ 1 ∷ bytes_of x ++ 1 ∷ [] → FindsChild x (entry_at m (first_from m key)) o → gap First x [] None f ≡ record { parent = x; left = None; right = o }
   gap_first x f m key o w h e s q t =
-    let ns = labels_of f in
-    let g = label_there x f w h in
-    let a = gap_around First x f (formed f w) h in
-    let first = first_told order ancestry f (λ d. Lt x d) (bytes_of x ++ 1 ∷ []) w (λ d n i b. behind_to order ancestry x d n g i b) (λ d n i u. behind_of order ancestry x d n g i u) (entry_at m (first_from m key)) t.label
+      let ns = labels_of f in
+      let g = label_there x f w h in
+      let a = gap_around First x f (formed f w) h in
+      let first = first_told order ancestry f (λ d. Lt x d) (bytes_of x ++ 1 ∷ []) w (λ d n i b. behind_to order ancestry x d n g i b) (λ d n i u. behind_of order ancestry x d n g i u) (entry_at m (first_from m key)) t.label
       (up_in f m key (1 ∷ bytes_of x ++ 1 ∷ []) e s q) t.told in
-    let is = right_found ns x (λ d. Lt x d) (gap First x [] None f).right t.label o a.2 first (λ k z u b d. first_stays x k z u b d) t.leads in
-    λ i. record { parent = a.0 i; left = a.1 i; right = is i }
+      let is = right_found ns x (λ d. Lt x d) (gap First x [] None f).right t.label o a.2 first (λ k z u b d. first_stays x k z u b d) t.leads in
+      λ i. record { parent = a.0 i; left = a.1 i; right = is i }
 
   pub gap_last : (x : Label) (f : Trees Labelled) (m : Entries) (key : List ℕ) (o : Option Label) → IsTrue (is_well_formed f) → has_node x f ≡ true
       → m ≡ image f → IsSorted m → key ≡ 1 ∷ bytes_of x ++ 255 ∷ [] → FindsChild x (entry_at m (last_to m key)) o → gap Last x [] None f ≡ record { parent = x; left = o; right = None }
   gap_last x f m key o w h e s q t =
-    let ns = labels_of f in
-    let g = label_there x f w h in
-    let a = gap_around Last x f (formed f w) h in
-    let last = last_told order ancestry f (λ d. Apart x d → ⊥) (bytes_of x ++ 255 ∷ []) w (λ d n i b. within_to order ancestry x d n g i b) (λ d n i u. within_of order ancestry x d n g i u) (entry_at m (last_to m key)) t.label
+      let ns = labels_of f in
+      let g = label_there x f w h in
+      let a = gap_around Last x f (formed f w) h in
+      let last = last_told order ancestry f (λ d. Apart x d → ⊥) (bytes_of x ++ 255 ∷ []) w (λ d n i b. within_to order ancestry x d n g i b) (λ d n i u. within_of order ancestry x d n g i u) (entry_at m (last_to m key)) t.label
       (down_in f m key (1 ∷ bytes_of x ++ 255 ∷ []) e s q) t.told in
-    let is = left_found ns x (λ d. Apart x d → ⊥) (gap Last x [] None f).left t.label o a.1 last (λ k z u b d. last_stays x k z u b d) t.leads in
-    λ i. record { parent = a.0 i; left = is i; right = a.2 i }
+      let is = left_found ns x (λ d. Apart x d → ⊥) (gap Last x [] None f).left t.label o a.1 last (λ k z u b d. last_stays x k z u b d) t.leads in
+      λ i. record { parent = a.0 i; left = is i; right = a.2 i }
 
   pub gap_top : (y : Label) (f : Trees Labelled) (m : Entries) (key : List ℕ) (o : Option Label) → IsTrue (is_well_formed f) → y ≡ [] → m ≡ image f → IsSorted m → key ≡ 1 ∷ bytes_of y ++ 255 ∷ []
       → FindsChild y (entry_at m (last_to m key)) o → ◌≡◌ {A = Gap} (record { parent = y; left = o; right = None }) (record { parent = []; left = last_label None f; right = None })
   gap_top y f m key o w n e s q t =
-    let ns = labels_of f in
-    let at = subst (λ (z : Label). FindsChild z (entry_at m (last_to m key)) o) n t in
-    let last = last_told order ancestry f (λ d. Apart [] d → ⊥) (255 ∷ []) w (λ d n i b. top_to order ancestry d n) (λ d n i u a. a.1 tt) (entry_at m (last_to m key)) at.label
+      let ns = labels_of f in
+      let at = subst (λ (z : Label). FindsChild z (entry_at m (last_to m key)) o) n t in
+      let last = last_told order ancestry f (λ d. Apart [] d → ⊥) (255 ∷ []) w (λ d n i b. top_to order ancestry d n) (λ d n i u a. a.1 tt) (entry_at m (last_to m key)) at.label
       (down_in f m key (1 ∷ 255 ∷ []) e s (q ∙ ap (λ (z : Label). 1 ∷ bytes_of z ++ 255 ∷ []) n)) at.told in
-    let is = left_found ns [] (λ d. Apart [] d → ⊥) (last_label None f) at.label o (last_around f (formed f w)) last (λ k z u b d. last_stays [] k z u b d) at.leads in
-    λ i. record { parent = n i; left = sym is i; right = None }
+      let is = left_found ns [] (λ d. Apart [] d → ⊥) (last_label None f) at.label o (last_around f (formed f w)) last (λ k z u b d. last_stays [] k z u b d) at.leads in
+      λ i. record { parent = n i; left = sym is i; right = None }
 
 -- ---- open gaps
 

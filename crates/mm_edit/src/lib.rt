@@ -8,6 +8,7 @@ mod differing;
 pub mod laws;
 mod neighbours;
 mod plan;
+mod planting;
 mod seeking;
 mod sites;
 mod taking_out;

@@ -126,13 +126,7 @@ pub fn keep_before(left: Option<Label>, label: &Label) -> Option<Label>
     ensures { result ≡ kept_before label.now left }
 {
     match left {
-        Some(left) => {
-            if left < *label {
-                Some(left)
-            } else {
-                None
-            }
-        }
+        Some(left) => { if left < *label { Some(left) } else { None } }
         None => None,
     }
 }
@@ -142,13 +136,7 @@ pub fn keep_after(right: Option<Label>, label: &Label) -> Option<Label>
     ensures { result ≡ kept_after label.now right }
 {
     match right {
-        Some(right) => {
-            if *label < right {
-                Some(right)
-            } else {
-                None
-            }
-        }
+        Some(right) => { if *label < right { Some(right) } else { None } }
         None => None,
     }
 }

@@ -32,6 +32,7 @@ pub struct Site {
     pub right: Option<Label>,
 }
 
+/// Lends the label, if there is one.
 pub fn lent(label: &Option<Label>) -> Option<&Label>
     ensures { option_map (λ l. l.now) result ≡ label.now }
 {
@@ -41,6 +42,7 @@ pub fn lent(label: &Option<Label>) -> Option<&Label>
     }
 }
 
+/// The same label once more, if there is one.
 fn copied(alloc: Global, label: Option<&Label>) -> Result<Option<Label>, AllocError>
     ensures value { IfOk result (λ l. l ≡ option_map (λ l. l.now) label.entry) }
     ensures ends { IfOk result (λ l. (front_of l ≡ []) ⊎ (last_odd false (front_of l) ≡ true)) }
