@@ -15,3 +15,9 @@ pub mod Sizes
 pub mod TakingOut
 pub mod Rooming
 pub mod Targets
+pub mod Nearest
+pub mod Seeks
+pub mod Siting
+pub mod Below
+pub mod Targeting
+pub mod Numbered

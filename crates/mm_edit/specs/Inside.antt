@@ -3,3 +3,5 @@ pub mod Finding
 pub mod Swapping
 pub mod Nodes
 pub mod Counting
+pub mod Placing
+pub mod Sites

@@ -1,8 +1,11 @@
 -- What a plan says, and what it asks of a keeper.
 use Rattle.std.specs.Prelude.{◌≡◌, ◌≤◌, List, [], ◌∷◌, Option, Some, None, Result, Ok, Err, length}
 use Rattle.mm_host.specs.declared.damage.Fault.{Fault}
+use Rattle.mm_host.specs.declared.damage.Fault.TheVariants as fault
 use Rattle.mm_image.specs.Subtrees.{IsUndamaged}
 use Rattle.mm_tree.specs.declared.refusal.Refusal.{Refusal}
+use Rattle.mm_tree.specs.declared.refusal.TreeError.{TreeError}
+use Rattle.mm_tree.specs.declared.refusal.TreeError.TheVariants as tree
 use Rattle.mm_edit.specs.declared.plan.EditError.{EditError}
 use Rattle.mm_edit.specs.declared.plan.EditError.TheVariants as error
 use Rattle.mm_keeper.specs.Entries.{Entry, Entries, HasRoom, put}
@@ -36,6 +39,11 @@ HasRoomFor m plan = HaveRoom (without_all plan.removes m) plan.puts
 abbrev pub IsRefusedBy : Option Refusal → EditError → Type 0
 IsRefusedBy refusal (error.Refused r) = refusal ≡ Some r
 IsRefusedBy refusal (error.Fault f) = IsUndamaged f
+
+-- why a tree can't stand, as why there is no plan
+abbrev pub of_tree : TreeError → EditError
+of_tree (tree.Refused r) = error.Refused r
+of_tree tree.Memory = error.Fault fault.Memory
 
 -- the fault of a plan that couldn't be made
 abbrev pub edit_fault : {T : Type 0} → Result T EditError → Option Fault

@@ -6,7 +6,11 @@ mod counting;
 mod deleting;
 mod differing;
 pub mod laws;
+mod neighbours;
 mod plan;
+mod planting;
+mod seeking;
+mod sites;
 mod taking_out;
 
 pub use carrying::carry_out;
