@@ -12,6 +12,7 @@ pub mod Halving
 pub mod Telling
 pub mod Numbers
 pub mod Sizes
-pub mod TakingOut
+pub mod InHand
 pub mod Rooming
 pub mod Targets
+pub mod WordSets

@@ -3,3 +3,4 @@ pub mod Finding
 pub mod Swapping
 pub mod Nodes
 pub mod Counting
+pub mod Changes

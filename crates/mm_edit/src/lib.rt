@@ -2,12 +2,16 @@
 #![tactic(auto)]
 
 mod carrying;
+mod changing;
 mod counting;
 mod deleting;
 mod differing;
 pub mod laws;
+mod parting;
 mod plan;
+mod putting_in;
 mod taking_out;
+mod weighing;
 
 pub use carrying::carry_out;
 pub use deleting::plan_delete;
