@@ -12,6 +12,13 @@ pub mod Halving
 pub mod Telling
 pub mod Numbers
 pub mod Sizes
-pub mod TakingOut
+pub mod InHand
 pub mod Rooming
 pub mod Targets
+pub mod Nearest
+pub mod Seeks
+pub mod Siting
+pub mod Below
+pub mod Targeting
+pub mod Numbered
+pub mod WordSets

@@ -2,12 +2,20 @@
 #![tactic(auto)]
 
 mod carrying;
+mod changing;
 mod counting;
 mod deleting;
 mod differing;
 pub mod laws;
+mod neighbours;
+mod parting;
 mod plan;
+mod planting;
+mod putting_in;
+mod seeking;
+mod sites;
 mod taking_out;
+mod weighing;
 
 pub use carrying::carry_out;
 pub use deleting::plan_delete;

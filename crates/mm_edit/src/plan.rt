@@ -6,7 +6,7 @@ ghost use Rattle.mm_edit.specs.Plans.{AreSized};
 
 use mm_host::{Bytes, Fault};
 use mm_image::Entry;
-use mm_tree::{Done, Refusal};
+use mm_tree::{Done, Refusal, TreeError};
 use std::marker::Model;
 
 /// Why there is no plan.
@@ -16,6 +16,31 @@ pub enum EditError {
     Refused(Refusal),
     /// The map couldn't be read.
     Fault(Fault),
+}
+
+impl From<Fault> for EditError {
+    ghost use Rattle.std.specs.Prelude.{◌≡◌};
+    ghost use Rattle.mm_edit.specs.declared.plan.EditError.TheVariants as error;
+
+    ghost from_gives = { λ f e. e ≡ error.Fault f };
+
+    fn from(fault: Fault) -> EditError {
+        EditError::Fault(fault)
+    }
+}
+
+impl From<TreeError> for EditError {
+    ghost use Rattle.std.specs.Prelude.{◌≡◌};
+    ghost use Rattle.mm_edit.specs.Plans.{of_tree};
+
+    ghost from_gives = { λ t e. e ≡ of_tree t };
+
+    fn from(error: TreeError) -> EditError {
+        match error {
+            TreeError::Refused(refusal) => EditError::Refused(refusal),
+            TreeError::Memory => EditError::Fault(Fault::Memory),
+        }
+    }
 }
 
 /// What an edit changes: the keys to be removed and the entries to be put, both in the order of the keys.

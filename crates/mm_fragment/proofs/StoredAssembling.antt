@@ -19,12 +19,12 @@ use Rattle.mm_tree.specs.Fragments.{Named, fragment, fragment_tree}
 use Rattle.mm_keeper.specs.Entries.{Entries, IsSorted}
 use Rattle.mm_image.specs.Image.{image}
 use Rattle.mm_image.specs.Laws.{FirstPieceNames}
+use Rattle.mm_image.specs.Naming.{stored_name}
 use Rattle.mm_fragment.specs.Inside.Piling.{roots, shown_all}
 use Rattle.mm_fragment.specs.Matching.{matches_of, open_nodes}
 use Rattle.mm_fragment.specs.Showing.{named_in, shown_at}
 use Rattle.mm_fragment.specs.Inside.Keeping.{IsKept}
 use Rattle.mm_fragment.specs.Inside.Stored.{BlamesNames, stored_shown}
-use Rattle.mm_fragment.specs.Stored.{stored_name}
 use Rattle.mm_fragment.proofs.Assembling.{assembled, masks_at}
 use Rattle.mm_fragment.proofs.LinkFragment.{kept_is_fragment}
 use Rattle.mm_fragment.proofs.StoredShown.{all_shown, kept_named, rebuilt_nodes, root_named, stored_is_shown}

@@ -18,7 +18,8 @@ use Rattle.mm_tree.specs.Validity.{is_element, is_valid_kind, is_valid_node, is_
 use Rattle.mm_tree.specs.Numbering.{Labelled, node_of, forest_of, number, fits, has_room, Labels, Numbers}
 use Rattle.mm_tree.specs.Forests.{are_labelled, has_valid_kind, are_elements, is_well_formed, IsRefusal}
 use Rattle.mm_tree.specs.Edits.{has_label, has_node, found, is_text_node, size_of, subtree_size, Change, taken_out, put_instead, put, edit, Gap, gap_at, gap, left_segment, right_segment, label_in, inserted_label, insert, delete, replace, is_inside, room_refusal, placed_refusal, insert_refusal, delete_refusal, replace_refusal}
-use Rattle.mm_tree.specs.Inside.Ways.{leads_to, found_down, edit_down, gap_down, IsOpen}
+use Rattle.mm_tree.specs.Gaps.{IsOpen}
+use Rattle.mm_tree.specs.Inside.Ways.{leads_to, found_down, edit_down, gap_down}
 use Rattle.mm_tree.proofs.NumberForm.{number_form, valid_numbered}
 use Rattle.mm_tree.specs.Facts.Formed.{parts}
 use Rattle.mm_tree.proofs.LoadFacts.{no_fit, no_fit_either, all_room, rises_is}

@@ -16,7 +16,8 @@ use Rattle.mm_tree.specs.Trees.{Trees, none, node}
 use Rattle.mm_tree.specs.Numbering.{Labelled, Labels}
 use Rattle.mm_tree.specs.Forests.{segment_below, rises, are_labelled}
 use Rattle.mm_tree.specs.Edits.{has_label, Gap, first_label, last_label, gap_at}
-use Rattle.mm_tree.specs.Inside.Ways.{leads_to, gap_down, IsOpen, EndsIn}
+use Rattle.mm_tree.specs.Gaps.{IsOpen}
+use Rattle.mm_tree.specs.Inside.Ways.{leads_to, gap_down, EndsIn}
 use Rattle.mm_tree.specs.Facts.Formed.{front_splits, Parts, parts}
 use Rattle.mm_tree.proofs.OrderLaws.{before_is}
 use Rattle.mm_tree.proofs.LoadFacts.{alone, out_of_range, no_fit, no_fit_either}

@@ -12,7 +12,8 @@ use Rattle.mm_tree.specs.Validity.{is_element, is_valid_node}
 use Rattle.mm_tree.specs.Numbering.{Labelled, number, fits, has_room}
 use Rattle.mm_tree.specs.Forests.{segment_below, are_labelled, is_well_formed, last_segment, numbered_behind}
 use Rattle.mm_tree.specs.Edits.{has_node, found, is_text_node, put, taken_out, put_instead, Gap, gap, left_segment, right_segment, inserted_label, is_inside, placed_refusal}
-use Rattle.mm_tree.specs.Inside.Ways.{edit_down, gap_down, IsOpen}
+use Rattle.mm_tree.specs.Gaps.{IsOpen}
+use Rattle.mm_tree.specs.Inside.Ways.{edit_down, gap_down}
 use Rattle.mm_tree.specs.Staying.{LoadStaysFormed, InsertStaysFormed, DeleteStaysFormed, ReplaceStaysFormed}
 use Rattle.mm_tree.proofs.WayLaws.{edit_is, gap_is, labels_of}
 use Rattle.mm_tree.proofs.LoadFacts.{last_whole, load_formed}

@@ -6,6 +6,7 @@ pub mod Numbering
 pub mod Forests
 pub mod Order
 pub mod Edits
+pub mod Gaps
 pub mod Untouched
 pub mod Staying
 pub mod Hits

@@ -14,21 +14,23 @@ mod changes;
 mod edit;
 mod find;
 mod label;
+mod levels;
 mod opening;
 mod place;
-mod placed;
 mod size;
 
 use self::changes::{delete_in, insert_in, replace_in};
 use self::find::find_in;
-use self::placed::{is_text, node_count};
+use self::levels::{is_text, node_count};
 use crate::node::{Node, number};
 use crate::plain::Plain;
 use crate::refusal::{Refusal, TreeError};
+pub use label::new_label;
+pub use levels::{LEVEL_LIMIT, placed};
 use mm_label::{Label, LabelError, between, child};
 use mm_list::Items;
+pub use opening::{Opening, level_of};
 pub use place::Place;
-pub use placed::LEVEL_LIMIT;
 use std::alloc::Global;
 use std::marker::Model;
 

@@ -19,11 +19,11 @@ mod refusal;
 mod search;
 mod text;
 
-pub use forest::{Done, Forest, LEVEL_LIMIT, Place};
+pub use forest::{Done, Forest, LEVEL_LIMIT, Opening, Place, level_of, new_label, placed};
 pub use fragment::{Fragment, Fragments};
 pub use hit::{Hit, Hits};
 pub use keywords::{KeywordLists, keyword_lists};
-pub use node::{Node, Nodes};
+pub use node::{Node, Nodes, number};
 pub use own::own_words;
 pub use plain::{Attribute, Attributes, Kind, NAME_LIMIT, Plain, Plains};
 pub use refusal::{Refusal, TreeError};

@@ -7,9 +7,9 @@ use Rattle.mm_lists.specs.Causes.{BlamesOnly}
 use Rattle.mm_match.specs.declared.mark.Mark.{Mark}
 use Rattle.mm_keeper.specs.Entries.{Entries}
 use Rattle.mm_image.specs.Keys.{chunk_key}
+use Rattle.mm_image.specs.Naming.{stored_name}
 use Rattle.mm_tree.specs.Fragments.{Named}
 use Rattle.mm_fragment.specs.Inside.Owning.{marked_words}
-use Rattle.mm_fragment.specs.Stored.{stored_name}
 
 -- the node with the words whose marks it has among these
 abbrev pub stored_shown : Entries → List (List ℕ) → List Mark → List ℤ → Named

@@ -2,20 +2,17 @@
 use Rattle.std.specs.Prelude.{ℕ, zero, suc, ◌+◌, ◌-◌, nat_lt, ℤ, Bool, true, false, not, ◌&&◌, IsTrue, ◌≡◌, ◌⊎◌, ⊤, IfSome, List, [], ◌∷◌, length, slice_get, Option, Some, None, option_map, if◌then◌else◌}
 use Rattle.std.specs.List.{starts_with}
 use Rattle.std.specs.Ordering.{int_eq}
-use Rattle.mm_label.specs.Label.{is_child, last_odd, IsSegment, IsLastSegment}
-use Rattle.mm_label.specs.Between.{IsOrdered}
-use Rattle.mm_label.specs.Refusals.{front_of}
+use Rattle.mm_label.specs.Label.{IsSegment, IsLastSegment}
 use Rattle.mm_tree.specs.declared.node.Node.{Node}
 use Rattle.mm_tree.specs.declared.node.Node.TheViews.{out-Node}
 use Rattle.mm_tree.specs.declared.forest.place.Place.{Place}
 use Rattle.mm_tree.specs.declared.forest.place.Place.TheVariants as place
 use Rattle.mm_tree.specs.declared.forest.edit.Edit.{Edit}
 use Rattle.mm_tree.specs.declared.forest.edit.Edit.TheVariants as edits
-use Rattle.mm_tree.specs.declared.forest.opening.Opening.{Opening}
 use Rattle.mm_tree.specs.Trees.{Trees, none, node, Tree, siblings}
 use Rattle.mm_tree.specs.Numbering.{Labelled, node_of}
 use Rattle.mm_tree.specs.Forests.{is_before, are_labelled}
-use Rattle.mm_tree.specs.Edits.{has_label, Change, taken_out, put_instead, put, Gap, gap_at, left_segment, right_segment}
+use Rattle.mm_tree.specs.Edits.{has_label, Change, taken_out, put_instead, put, Gap, gap_at}
 
 abbrev pub leads_to : List ℤ → Labelled → Bool
 leads_to x e = starts_with int_eq x e.label
@@ -56,10 +53,6 @@ at_index f i [] = none
 at_index f zero (t ∷ ts) = f t.0 t.1 (siblings ts)
 at_index f (suc i) (t ∷ ts) = node t.0 t.1 (at_index f i ts)
 
--- the labels around an opening
-abbrev pub gap_of : Opening → Gap
-gap_of o = record { parent = front_of (option_map (λ p. p.now) o.parent); left = option_map (λ l. l.now) o.left; right = option_map (λ r. r.now) o.right }
-
 -- ---- the gap at the i-th of the siblings, which is n
 
 abbrev pub node_label : List Node → ℕ → Option (List ℤ)
@@ -73,15 +66,6 @@ gap_here place.Before y ns n i = record { parent = y; left = label_before ns i; 
 gap_here place.After y ns n i = record { parent = y; left = Some (out-Node n).label; right = node_label ns (i + 1) }
 gap_here place.First y ns n i = record { parent = (out-Node n).label; left = None; right = node_label (out-Node n).children 0 }
 gap_here place.Last y ns n i = record { parent = (out-Node n).label; left = label_before (out-Node n).children (length (out-Node n).children); right = None }
-
--- ---- the neighbours of a gap
-
--- the parent's label is nothing or a label, the neighbours' go on from it, and they rise
-pub record IsOpen (g : Gap) : Type 0 where
-  pub parent : (g.parent ≡ []) ⊎ (last_odd false g.parent ≡ true)
-  pub left : IfSome g.left (λ l. IsTrue (is_child g.parent l))
-  pub right : IfSome g.right (λ r. IsTrue (is_child g.parent r))
-  pub ordered : IsOrdered (left_segment g) (right_segment g)
 
 -- this is the last segment of the label, where there is one
 abbrev pub EndsIn : Option (List ℤ) → Option (List ℤ) → Type 0

@@ -6,7 +6,8 @@ ghost use Rattle.mm_label.specs.Between.{between, LiesBetween};
 ghost use Rattle.mm_label.specs.Refusals.{RefusesSegment};
 ghost use Rattle.mm_tree.specs.Numbering.{Labels};
 ghost use Rattle.mm_tree.specs.Edits.{label_in, left_segment, right_segment};
-ghost use Rattle.mm_tree.specs.Inside.Ways.{gap_of, IsOpen, EndsIn};
+ghost use Rattle.mm_tree.specs.Gaps.{gap_of, IsOpen};
+ghost use Rattle.mm_tree.specs.Inside.Ways.{EndsIn};
 
 use super::opening::Opening;
 use crate::refusal::TreeError;

@@ -9,11 +9,12 @@ ghost use Rattle.mm_tree.specs.Validity.{is_element};
 ghost use Rattle.mm_tree.specs.Numbering.{forest_of};
 ghost use Rattle.mm_tree.specs.Forests.{is_well_formed, IsRefusal};
 ghost use Rattle.mm_tree.specs.Edits.{found, gap, is_inside, is_text_node, label_in, placed_refusal, insert_refusal};
-ghost use Rattle.mm_tree.specs.Inside.Ways.{gap_down, gap_of, gap_here, node_label, label_before as left_label, IsOpen};
+ghost use Rattle.mm_tree.specs.Gaps.{gap_of, IsOpen};
+ghost use Rattle.mm_tree.specs.Inside.Ways.{gap_down, gap_here, node_label, label_before as left_label};
 
 use super::find::{find_in, is_same, way};
+use super::levels::is_text;
 use super::place::Place;
-use super::placed::is_text;
 use crate::node::Node;
 use crate::plain::Kind;
 use crate::refusal::{Refusal, TreeError};

@@ -3,7 +3,8 @@ use Rattle.std.specs.Prelude.{None}
 use Rattle.mm_tree.specs.Trees.{tree_of, one, levels}
 use Rattle.mm_tree.specs.Numbering.{forest_of, node_of}
 use Rattle.mm_tree.specs.Edits.{found, gap, is_inside, is_text_node}
-use Rattle.mm_tree.specs.Inside.Ways.{gap_down, gap_of}
+use Rattle.mm_tree.specs.Gaps.{gap_of}
+use Rattle.mm_tree.specs.Inside.Ways.{gap_down}
 use Rattle.mm_tree.proofs.MeasureFacts.{node_count_fits}
 use Rattle.mm_tree.proofs.EditFacts.{Inserting, the_insertion, insertion_formed}
 use Rattle.mm_tree.proofs.forest.changes.insert_in.Goals as goal

@@ -3,7 +3,7 @@ use Rattle.std.specs.Prelude.{ℤ}
 use Rattle.std.proofs.lemmas.Result.{err_from_is_err_and}
 use Rattle.mm_label.specs.Between.{LiesBetween}
 use Rattle.mm_tree.specs.Edits.{left_segment, right_segment}
-use Rattle.mm_tree.specs.Inside.Ways.{gap_of}
+use Rattle.mm_tree.specs.Gaps.{gap_of}
 use Rattle.mm_tree.proofs.LoadFacts.{refused_label, label_fits}
 use Rattle.mm_tree.proofs.OpenFacts.{refused_below}
 use Rattle.mm_tree.proofs.forest.label.new_label.Goals as goal

@@ -3,7 +3,7 @@ use Rattle.std.specs.Prelude.{IfOk, IfErr, option_map}
 use Rattle.mm_label.specs.Between.{between, IsOrdered, LiesBetween}
 use Rattle.mm_label.specs.Refusals.{RefusesSegment}
 use Rattle.mm_tree.specs.Edits.{left_segment, right_segment}
-use Rattle.mm_tree.specs.Inside.Ways.{gap_of}
+use Rattle.mm_tree.specs.Gaps.{gap_of}
 use Rattle.mm_tree.proofs.OpenFacts.{segments_are, moved}
 use Rattle.mm_tree.proofs.forest.label.new_segment.Goals as goal
 use Rattle.mm_tree.proofs.forest.label.new_segment.Goals.{Joined-left-2}

@@ -1,0 +1,4 @@
+pub mod Reading
+pub mod Blame
+pub mod Laws
+pub mod Examples
