@@ -6,7 +6,7 @@ use Rattle.std.proofs.lemmas.Cmp.{nat_list_cmp_total, tied_itself}
 use Rattle.std.proofs.lemmas.Map.Lookups.{exact_bytes}
 use Rattle.std.proofs.lemmas.Slice.Eq.{bytes_eq-Decides}
 use Rattle.mm_keeper.specs.Entries.{Entries, Entry}
-use Rattle.mm_check.specs.Reading.{Named}
+use Rattle.mm_check.specs.declared.verdict.Named.{Named}
 use Rattle.mm_check.specs.Blame.{first_difference, fronts_differ, other_value}
 
 fronts_none : (o : Ordering) (s d : Entry) (rest : Option Named) → fronts_differ o s d rest ≡ None → (o ≡ Equal) × (s.1 ≡ d.1) × (rest ≡ None)

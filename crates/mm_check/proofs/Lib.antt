@@ -8,3 +8,5 @@ mod Lasting
 mod Running
 mod Hanging
 mod Sound
+mod Passing
+mod Fronting

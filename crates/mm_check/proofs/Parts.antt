@@ -7,7 +7,8 @@ use Rattle.mm_label.specs.Bytes.{bytes_of}
 use Rattle.mm_label.specs.Label.{IsLabel, all_in_range, last_odd}
 use Rattle.mm_image.specs.Content.{piece_limit}
 use Rattle.mm_check.specs.Laws.{AreBytes}
-use Rattle.mm_check.specs.Reading.{Named, Place, ◌&>◌, is_label, is_piece, is_place, ok_if, place_in, place_of}
+use Rattle.mm_check.specs.declared.verdict.Named.{Named}
+use Rattle.mm_check.specs.Reading.{Place, ◌&>◌, is_label, is_piece, is_place, ok_if, place_in, place_of}
 
 -- ---- one after the other
 

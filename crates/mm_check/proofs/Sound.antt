@@ -3,6 +3,7 @@ use Rattle.std.proofs.Common.{inl, inr, ◌≡◌, ◌⊎◌, Bool, true, false,
 use Rattle.std.specs.Prelude.{flat_map}
 use Rattle.std.specs.List.{range_with_len}
 use Rattle.std.proofs.lemmas.List.{reverse-append, reverse-reverse}
+use Rattle.std.proofs.lemmas.List.Elements.{filter-append}
 use Rattle.mm_keeper.specs.Entries.{Entries, Rises}
 use Rattle.mm_label.specs.Fronts.{Within}
 use Rattle.mm_tree.specs.Facts.Formed.{formed}
@@ -20,7 +21,8 @@ use Rattle.mm_image.specs.Keys.{chunk_key, occurrence_key}
 use Rattle.mm_image.specs.Laws.{ChunkOrder, ContentsAreRead, ReadAreContents}
 use Rattle.mm_check.specs.Blame.{begins_chunk, blame, blame_behind, chunks_in, first_difference}
 use Rattle.mm_check.specs.Laws.{AreValues, IsImage, SoundIsImage}
-use Rattle.mm_check.specs.Reading.{Named, read}
+use Rattle.mm_check.specs.declared.verdict.Named.{Named}
+use Rattle.mm_check.specs.Reading.{read}
 use Rattle.mm_check.proofs.Differences.{no_difference, same_same}
 use Rattle.mm_check.proofs.Explaining.{AllRead, all_read}
 use Rattle.mm_check.proofs.Forming.{AllAlone, StandsAlone, well_formed}
@@ -30,14 +32,6 @@ use Rattle.mm_check.proofs.Planting.{AllHang, nodes_rebuilt, read_sits}
 use Rattle.mm_check.proofs.Running.{ComponentsAgain, nodes_read, onto}
 
 -- ---- the chunks of a map
-
-pass_joined : {X : Type 0} (p : X → Bool) (xs ys : List X) → filter p (xs ++ ys) ≡ filter p xs ++ filter p ys
-pass_joined p [] ys = refl
-pass_joined p (x ∷ xs) ys = by (p x) (pass_joined p xs ys)
-  where
-    by : (b : Bool) → filter p (xs ++ ys) ≡ filter p xs ++ filter p ys → cond b (x ∷ filter p (xs ++ ys)) (filter p (xs ++ ys)) ≡ cond b (x ∷ filter p xs) (filter p xs) ++ filter p ys
-    by true i = ap (λ z. x ∷ z) i
-    by false i = i
 
 mapped_pass : {X Y : Type 0} (p : Y → Bool) (f : X → Y) (xs : List X) → ((x : X) → p (f x) ≡ true) → filter p (map f xs) ≡ map f xs
 mapped_pass p f [] h = refl
@@ -49,11 +43,11 @@ mapped_none p f (x ∷ xs) h = ap (λ (b : Bool). cond b (f x ∷ filter p (map 
 
 flat_pass : {X Y : Type 0} (p : Y → Bool) (f : X → List Y) (xs : List X) → ((x : X) → filter p (f x) ≡ f x) → filter p (flat_map f xs) ≡ flat_map f xs
 flat_pass p f [] h = refl
-flat_pass p f (x ∷ xs) h = pass_joined p (f x) (flat_map f xs) ∙ ap (λ z. z ++ filter p (flat_map f xs)) (h x) ∙ ap (λ z. f x ++ z) (flat_pass p f xs h)
+flat_pass p f (x ∷ xs) h = filter-append p (f x) (flat_map f xs) ∙ ap (λ z. z ++ filter p (flat_map f xs)) (h x) ∙ ap (λ z. f x ++ z) (flat_pass p f xs h)
 
 flat_none : {X Y : Type 0} (p : Y → Bool) (f : X → List Y) (xs : List X) → ((x : X) → filter p (f x) ≡ []) → filter p (flat_map f xs) ≡ []
 flat_none p f [] h = refl
-flat_none p f (x ∷ xs) h = pass_joined p (f x) (flat_map f xs) ∙ ap (λ z. z ++ filter p (flat_map f xs)) (h x) ∙ flat_none p f xs h
+flat_none p f (x ∷ xs) h = filter-append p (f x) (flat_map f xs) ∙ ap (λ z. z ++ filter p (flat_map f xs)) (h x) ∙ flat_none p f xs h
 
 no_occurrences : (nodes : Trees Worded) → chunks_in (occurrences nodes) ≡ []
 no_occurrences nodes = flat_none begins_chunk (occurrences_of nodes) (words nodes) (λ w. mapped_none begins_chunk (λ label. (occurrence_key w label, [])) (list_of w nodes) (λ l. refl))
@@ -67,9 +61,9 @@ all_chunks f = flat_pass begins_chunk chunks_of (preorder f) (λ e. mapped_pass 
 image_chunks : (f : Trees Labelled) → chunks_in (image f) ≡ chunks f
 image_chunks f =
     let w = worded f in
-    pass_joined begins_chunk (chunks f) (occurrences w ++ counts w)
+    filter-append begins_chunk (chunks f) (occurrences w ++ counts w)
     ∙ ap (λ (z : Entries). z ++ chunks_in (occurrences w ++ counts w)) (all_chunks f)
-    ∙ ap (λ (z : Entries). chunks f ++ z) (pass_joined begins_chunk (occurrences w) (counts w) ∙ ap (λ (z : Entries). z ++ chunks_in (counts w)) (no_occurrences w) ∙ no_counts w)
+    ∙ ap (λ (z : Entries). chunks f ++ z) (filter-append begins_chunk (occurrences w) (counts w) ∙ ap (λ (z : Entries). z ++ chunks_in (counts w)) (no_occurrences w) ∙ no_counts w)
     ∙ append-nil (chunks f)
 
 values_in : (m : Entries) → AreValues m → AreValues (chunks_in m)

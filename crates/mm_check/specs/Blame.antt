@@ -10,7 +10,8 @@ use Rattle.mm_tree.specs.Formed.{node_label}
 use Rattle.mm_tree.specs.Numbering.{Labelled}
 use Rattle.mm_tree.specs.Rebuild.{rebuild}
 use Rattle.mm_image.specs.Image.{image}
-use Rattle.mm_check.specs.Reading.{Named, not_due, read}
+use Rattle.mm_check.specs.declared.verdict.Named.{Named}
+use Rattle.mm_check.specs.Reading.{not_due, read}
 
 -- an entry that is due and is not there; one with another value
 abbrev pub not_there : Entry → Named

@@ -6,7 +6,8 @@ use Rattle.mm_keeper.specs.Entries.{Entries, Entry}
 use Rattle.mm_tree.specs.declared.plain.Kind.TheVariants.{Element, Words}
 use Rattle.mm_image.specs.Fields.{element_at, standing}
 use Rattle.mm_image.specs.Keys.{chunk_key, count_key, occurrence_key}
-use Rattle.mm_check.specs.Reading.{Named, not_due, place_of, read}
+use Rattle.mm_check.specs.declared.verdict.Named.{Named}
+use Rattle.mm_check.specs.Reading.{not_due, place_of, read}
 use Rattle.mm_check.specs.Blame.{first_difference, not_there, other_value}
 
 one : List ℤ

@@ -16,6 +16,7 @@ use Rattle.mm_tree.specs.Validity.{is_element}
 use Rattle.mm_image.specs.Content.{piece_limit}
 use Rattle.mm_image.specs.Fields.{Field, Short, Wrong, Right, is_text, is_wrong, standing}
 use Rattle.mm_image.specs.Keys.{chunk_key}
+use Rattle.mm_check.specs.declared.verdict.Named.{Named}
 
 -- ---- chunk keys
 
@@ -40,12 +41,6 @@ unfoldable pub place_of : List ℕ → Option Place
 place_of key = if is_place (place_in key) key then Some (place_in key) else None
 
 -- ---- what is named
-
--- A key, with the value that stands there and the one that is due, where they are known.
-pub record Named : Type 0 where
-  pub key : List ℕ
-  pub stored : Option (List ℕ)
-  pub due : Option (List ℕ)
 
 -- an entry that is not due
 abbrev pub not_due : Entry → Named

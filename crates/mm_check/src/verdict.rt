@@ -15,3 +15,11 @@ pub enum Verdict {
         due: Option<Bytes>,
     },
 }
+
+/// A key that doesn't fit, with the value that stands there and the one that is due, where they are known.
+#[derive(Debug, Drop)]
+pub struct Named {
+    pub key: Bytes,
+    pub stored: Option<Bytes>,
+    pub due: Option<Bytes>,
+}
