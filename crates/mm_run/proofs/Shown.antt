@@ -11,7 +11,8 @@ use Rattle.mm_fragment.specs.Telling.{SmallestTell, ExclusiveTell}
 use Rattle.mm_command.specs.Replies.{fragments_text}
 use Rattle.mm_command.specs.declared.line.Find.{Find}
 use Rattle.mm_command.specs.declared.line.Find.TheVariants.{Maxmatch, MaxmatchElca}
-use Rattle.mm_run.specs.Answers.{found_text, fragments_of, roots}
+use Rattle.mm_fragment.specs.Showing.{fragments_of}
+use Rattle.mm_run.specs.Answers.{found_text, roots}
 use Rattle.mm_run.specs.Steps.{find_cost, fragments_cost, roots_cost, show_cost}
 use Rattle.mm_run.specs.Inside.Told.{AreTold}
 

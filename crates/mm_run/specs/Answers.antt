@@ -1,7 +1,6 @@
 -- What commands are answered, and the forests after them.
 use Rattle.std.specs.Prelude.{◌≡◌, ℕ, ℤ, if◌then◌else◌, ◌&&◌, not, nat_le, List, [], ◌∷◌, ◌++◌, Some, None, ◌⊎◌}
 use Rattle.std.specs.declared.option.Option.{Option}
-use Rattle.std.specs.List.{flat_map}
 use Rattle.mm_label.specs.Label.{IsLabel}
 use Rattle.mm_label.specs.Text.{text_of, IsNoLabelText}
 use Rattle.mm_words.specs.Words.{query_words}
@@ -19,8 +18,7 @@ use Rattle.mm_tree.specs.Edits.{found, has_node, is_inside, is_text_node, subtre
 use Rattle.mm_tree.specs.Search.{worded, slca}
 use Rattle.mm_tree.specs.Elca.{elca}
 use Rattle.mm_tree.specs.Hits.{hits_of}
-use Rattle.mm_tree.specs.Fragments.{Named, fragment}
-use Rattle.mm_fragment.specs.Showing.{named_in}
+use Rattle.mm_fragment.specs.Showing.{fragments_of}
 use Rattle.mm_xml.specs.Grammar.{Spells}
 use Rattle.mm_command.specs.declared.line.Line.{Line}
 use Rattle.mm_command.specs.declared.line.Line.TheVariants as line
@@ -158,14 +156,6 @@ roots find.Slca query forest = slca query (worded forest)
 roots find.Elca query forest = elca query (worded forest)
 roots find.Maxmatch query forest = slca query (worded forest)
 roots find.MaxmatchElca query forest = elca query (worded forest)
-
--- the fragment of the node that has a label, if there is one
-abbrev pub fragment_at : List (List ℕ) → Option (Tree Labelled) → List (Tree Named)
-fragment_at query None = []
-fragment_at query (Some t) = fragment query (named_in t) ∷ []
-
-abbrev pub fragments_of : List (List ℕ) → Trees Labelled → List (List ℤ) → List (Tree Named)
-fragments_of query forest labels = flat_map (λ x. fragment_at query (found x forest)) labels
 
 -- what a search finds: nodes, or fragments of nodes
 abbrev pub found_text : Find → List (List ℕ) → Trees Labelled → List (List ℤ) → List ℕ

@@ -8,7 +8,8 @@ ghost use Rattle.mm_tree.specs.Hits.{name_at, hits_of};
 ghost use Rattle.mm_tree.specs.Fragments.{fragment_tree};
 ghost use Rattle.mm_lists.specs.Leaves.{Leaves};
 ghost use Rattle.mm_command.specs.Replies.{reply_text};
-ghost use Rattle.mm_run.specs.Answers.{AnswersSearch, fragment_at, fragments_of, found_text, roots};
+ghost use Rattle.mm_fragment.specs.Showing.{fragment_at, fragments_of};
+ghost use Rattle.mm_run.specs.Answers.{AnswersSearch, found_text, roots};
 ghost use Rattle.mm_run.specs.Steps.{find_cost, fragment_cost, fragments_cost, roots_cost, search_cost};
 ghost use Rattle.mm_run.specs.Inside.Told.{AreTold};
 

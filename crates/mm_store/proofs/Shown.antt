@@ -3,13 +3,13 @@ use Rattle.std.proofs.Common.{◌≡◌, ℕ, ℤ, ◌+◌, ◌<◌, ◌≤◌, 
 use Rattle.std.proofs.lemmas.List.{map-append, take_more}
 use Rattle.std.proofs.lemmas.List.Sums.{sum_by_push, sum_by-take-le}
 use Rattle.std.proofs.lemmas.Grind.{flat_map-append}
-use Rattle.mm_fragment.specs.Showing.{named_in}
+use Rattle.mm_fragment.specs.Showing.{fragment_at, fragments_of, named_in}
 use Rattle.mm_tree.specs.declared.fragment.Fragment.{Fragment}
 use Rattle.mm_tree.specs.Edits.{found}
 use Rattle.mm_tree.specs.Fragments.{fragment, fragment_tree}
 use Rattle.mm_tree.specs.Numbering.{Labelled}
 use Rattle.mm_tree.specs.Trees.{Tree, Trees}
-use Rattle.mm_store.specs.Shown.{fragment_at, fragment_cost, fragments_cost, fragments_of}
+use Rattle.mm_store.specs.Shown.{fragment_cost, fragments_cost}
 
 pub one_more : (xs : List (List ℤ)) (i : ℕ) (x : List ℤ) → i < length xs → x ≡ get_or xs i x → take (i + 1) xs ≡ take i xs ++ x ∷ []
 one_more xs i x l e = take_more xs i x l ∙ ap (λ (z : List ℤ). take i xs ++ z ∷ []) (sym e)

@@ -1,15 +1,20 @@
 //! The store: a keeper and a limit on its weight.
 
-ghost use Rattle.std.specs.Prelude.{◌≡◌, ◌+◌, ◌≤◌, ◌^◌, Some, [], IfOk, IfErr, length, map};
+ghost use Rattle.std.specs.Prelude.{◌≡◌, ◌+◌, ◌*◌, ◌≤◌, ◌^◌, ◌⊎◌, Some, [], false, true, IfOk, IfErr, IsErrOf, OnErr, length, map};
 ghost use Rattle.mm_elca.specs.Bound as elca;
 ghost use Rattle.mm_fragment.specs.Stored.{IsDamageBelow};
+ghost use Rattle.mm_host.specs.Causes.{Rose};
+ghost use Rattle.mm_host.specs.Moments.{LeavesOnly};
+ghost use Rattle.mm_host.specs.declared.damage.Fault.TheVariants as fault;
 ghost use Rattle.mm_image.specs.Ground.{Accounts, HoldsImage, SameGround};
 ghost use Rattle.mm_image.specs.Subtrees.{NamesKey, at_or_below, run_of};
 ghost use Rattle.mm_keeper.specs.Entries.{weight_of};
+ghost use Rattle.mm_keeper.specs.Keeping.{Keeps, fault_of};
 ghost use Rattle.mm_lists.specs.Causes.{BlamesOnly, Caused, IsSound};
 ghost use Rattle.mm_slca.specs.Bound as slca;
 ghost use Rattle.mm_store.specs.Answers.{IsAbsent, OnFault, store_fault};
-ghost use Rattle.mm_store.specs.Shown.{fragments_cost, fragments_of};
+ghost use Rattle.mm_fragment.specs.Showing.{fragments_of};
+ghost use Rattle.mm_store.specs.Shown.{fragments_cost};
 ghost use Rattle.mm_tree.specs.Edits.{found};
 ghost use Rattle.mm_tree.specs.Elca.{elca};
 ghost use Rattle.mm_tree.specs.Fragments.{fragment_tree};
@@ -114,7 +119,13 @@ impl<K: Keeper> Store<K> {
         answers_are_smallest();
         answers_tell();
         let labels = smallest(self.alloc, query, &mut self.keeper, steps)?;
-        fragments_of(self.alloc, labels.as_slice(), query, &mut self.keeper, steps)
+        fragments_of(
+            self.alloc,
+            labels.as_slice(),
+            query,
+            &mut self.keeper,
+            steps,
+        )
     }
 
     /// The fragments of the exclusive lowest common ancestors of the query, in document order.
@@ -134,11 +145,21 @@ impl<K: Keeper> Store<K> {
         exclusive_answers();
         answers_tell();
         let labels = exclusive(self.alloc, query, &mut self.keeper, steps)?;
-        fragments_of(self.alloc, labels.as_slice(), query, &mut self.keeper, steps)
+        fragments_of(
+            self.alloc,
+            labels.as_slice(),
+            query,
+            &mut self.keeper,
+            steps,
+        )
     }
 
     /// The subtree of the node with the label; it is refused where no node has it.
-    pub fn show<L: Ledger>(&mut self, label: &Label, steps: &mut Steps<L>) -> Result<Node, StoreError>
+    pub fn show<L: Ledger>(
+        &mut self,
+        label: &Label,
+        steps: &mut Steps<L>,
+    ) -> Result<Node, StoreError>
         ensures shown { (f : Trees Labelled) → HoldsImage K.has_maps K.seen self.old.keeper f → IfOk result (λ node. found label.now f ≡ Some (node_of node)) }
         ensures damaged { K.has_maps self.old.keeper → IfErr result (OnFault (NamesKey label.now (at_or_below label.now (K.seen self.old.keeper).now))) }
         ensures absent { (f : Trees Labelled) → HoldsImage K.has_maps K.seen self.old.keeper f → IfErr result (IsAbsent (found label.now f)) }
@@ -154,12 +175,31 @@ impl<K: Keeper> Store<K> {
         }
     }
 
-    /// Does the checkpoint work of at most so many pages.
+    /// Does the checkpoint work of at most so many pages. It takes no memory.
     pub fn tick(&mut self, pages: u32) -> Result<(), Fault>
         ensures same { K.has_maps self.old.keeper → K.seen self.new.keeper ≡ K.seen self.old.keeper }
+        ensures any_moment { K.has_maps self.old.keeper → K.is_spent self.old.keeper ≡ false → LeavesOnly K.moment K.left_since self.old.keeper self.new.keeper (λ m. m ≡ Some (K.seen self.old.keeper).kept) }
+        ensures pages { K.tells → (K.written self.new.keeper).pages ≤ (K.written self.old.keeper).pages + 4096 * pages }
+        ensures journal { K.tells → (K.written self.new.keeper).journal ≤ (K.written self.old.keeper).journal + 1 }
+        ensures changes { K.tells → K.changes self.new.keeper ≤ K.changes self.old.keeper }
+        ensures causes { OnErr result (Rose (K.fault_count self.old.keeper) (K.fault_count self.new.keeper) ⊎ Rose (K.want_count self.old.keeper) (K.want_count self.new.keeper) ⊎ (K.is_spent self.old.keeper ≡ true)) }
+        ensures memory { IsErrOf result fault.Memory → Rose (K.want_count self.old.keeper) (K.want_count self.new.keeper) }
+        ensures keeps { Keeps K.over K.has_maps K.is_sound K.is_spent K.fault_count K.want_count true self.old.keeper self.new.keeper (fault_of result) }
         ensures limit { self.new.limit ≡ self.old.limit }
     {
         self.keeper.tick(pages)
+    }
+
+    /// Gives the keeper back.
+    pub fn into_keeper(self) -> K
+        ensures { result ≡ self.keeper }
+    {
+        let Store {
+            alloc: _alloc,
+            keeper,
+            limit: _limit,
+        } = self;
+        keeper
     }
 
     /// The lengths of all keys and values together.

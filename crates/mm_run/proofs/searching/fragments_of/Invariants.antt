@@ -3,7 +3,7 @@ use Rattle.std.specs.Prelude.{◌↔◌}
 use Rattle.mm_tree.specs.Trees.{Trees}
 use Rattle.mm_tree.specs.Numbering.{Labelled, forest_of}
 use Rattle.mm_tree.specs.Fragments.{fragment_tree}
-use Rattle.mm_run.specs.Answers.{fragments_of}
+use Rattle.mm_fragment.specs.Showing.{fragments_of}
 use Rattle.mm_run.specs.Steps.{fragments_cost}
 use Rattle.mm_run.specs.Inside.Told.{AreTold}
 use Rattle.mm_run.proofs.searching.fragments_of.Given as goal

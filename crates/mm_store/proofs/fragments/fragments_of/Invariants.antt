@@ -4,7 +4,8 @@ use Rattle.mm_tree.specs.Fragments.{fragment_tree}
 use Rattle.mm_tree.specs.Numbering.{Labelled}
 use Rattle.mm_tree.specs.Trees.{Trees}
 use Rattle.mm_store.specs.Inside.Told.{AreTold}
-use Rattle.mm_store.specs.Shown.{fragments_cost, fragments_of}
+use Rattle.mm_fragment.specs.Showing.{fragments_of}
+use Rattle.mm_store.specs.Shown.{fragments_cost}
 use Rattle.mm_store.proofs.fragments.fragments_of.Given as goal
 
 -- the fragments so far are those of the first labels, and took their steps

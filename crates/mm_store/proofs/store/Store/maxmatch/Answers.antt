@@ -1,7 +1,8 @@
 use Rattle.std.proofs.Common.{◌≡◌, ◌∙◌, ap, subst, ℤ, List, IfOk, map, arith}
 use Rattle.mm_image.specs.Ground.{HoldsImage}
 use Rattle.mm_tree.specs.Fragments.{fragment_tree}
-use Rattle.mm_store.specs.Shown.{fragments_cost, fragments_of}
+use Rattle.mm_fragment.specs.Showing.{fragments_of}
+use Rattle.mm_store.specs.Shown.{fragments_cost}
 use Rattle.mm_store.proofs.Told.{smallest_told}
 use Rattle.mm_store.proofs.store.Store.maxmatch.Goals as goal
 
