@@ -12,7 +12,7 @@ pub mod Halving
 pub mod Telling
 pub mod Numbers
 pub mod Sizes
-pub mod TakingOut
+pub mod InHand
 pub mod Rooming
 pub mod Targets
 pub mod Nearest
@@ -21,3 +21,4 @@ pub mod Siting
 pub mod Below
 pub mod Targeting
 pub mod Numbered
+pub mod WordSets

@@ -8,6 +8,7 @@ use Rattle.mm_label.specs.Facts.Members.{within_of}
 use Rattle.mm_keeper.specs.Entries.{Entry, Entries, has, index_of, lookup, rank}
 use Rattle.mm_keeper.specs.Facts.Keys.{lookup-at}
 use Rattle.mm_image.specs.Keys.{count_key}
+use Rattle.mm_edit.specs.declared.changing.WordChange.{WordChange}
 use Rattle.mm_edit.specs.Difference.{Key}
 use Rattle.mm_edit.specs.Inside.Counting.{Blames, BlamesCount, BlamesCounts, BlamesNumber, TellsNumber, number_held, number_in}
 use Rattle.mm_edit.proofs.Halving.{at_rank, chosen}
@@ -80,5 +81,5 @@ pub err_told : {A : Type 0} {P Q : Fault → Type 0} (r : Result A Fault) → Is
 err_told (Ok a) h g = tt
 err_told (Err f) h g = g f h
 
-pub blamed_counts : (m : Entries) (ts : List (List ℕ × ℕ)) (t : List ℕ × ℕ) (i : ℕ) (f : Fault) → i < length ts → t ≡ get_or ts i t → BlamesCount m t.0 f → BlamesCounts m ts f
-blamed_counts m ts t i f l e b = blames_more (λ z. (z ≡ count_key t.0) × (number_held m t.0 ≡ None)) _ f (λ z x. (t, within_of t ts (i, l, sym e), x.0, x.1)) b
+pub blamed_counts : (m : Entries) (ts : List WordChange) (t : WordChange) (i : ℕ) (f : Fault) → i < length ts → t ≡ get_or ts i t → BlamesCount m t.word f → BlamesCounts m ts f
+blamed_counts m ts t i f l e b = blames_more (λ z. (z ≡ count_key t.word) × (number_held m t.word ≡ None)) _ f (λ z x. (t, within_of t ts (i, l, sym e), x.0, x.1)) b

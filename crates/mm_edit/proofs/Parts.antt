@@ -1,5 +1,5 @@
 -- The part of a map that a plan has in hand: the entries of some nodes, and the counts of their words.
-use Rattle.std.proofs.Common.{inl, inr, ◌≡◌, refl, ap, sym, ◌∙◌, subst, Bool, true, false, ℕ, ◌+◌, zero, suc, List, [], ◌∷◌, ◌++◌, arith, length}
+use Rattle.std.proofs.Common.{inl, inr, ◌≡◌, refl, ap, sym, ◌∙◌, subst, Bool, true, false, ℕ, ◌+◌, zero, suc, List, [], ◌∷◌, ◌++◌, append_assoc, arith, length}
 use Rattle.std.specs.Prelude.{Some, None, ◌⊎◌, if◌then◌else◌, ◌||◌, nat_lt, map}
 use Rattle.std.specs.List.{list_any}
 use Rattle.std.specs.Ordering.{is_lt}
@@ -9,9 +9,10 @@ use Rattle.byteorder.specs.Endian.{big_bytes}
 use Rattle.mm_label.specs.Fronts.{Ordered, Within}
 use Rattle.mm_label.specs.Facts.Members.{any_at, in_within, within_joined}
 use Rattle.mm_keeper.specs.Entries.{Entry, Entries, below, IsBelow, Rises}
+use Rattle.mm_tree.specs.Forests.{and_then}
 use Rattle.mm_tree.specs.Numbering.{Labelled}
 use Rattle.mm_tree.specs.Search.{list_of, own, worded}
-use Rattle.mm_tree.specs.Trees.{Trees, preorder}
+use Rattle.mm_tree.specs.Trees.{Trees, none, node, preorder}
 use Rattle.mm_image.specs.Keys.{count_key}
 use Rattle.mm_image.specs.Image.{chunks, entries_of, occurrences, words}
 use Rattle.mm_image.specs.Facts.Members.{listed_word}
@@ -19,12 +20,13 @@ use Rattle.mm_image.specs.Facts.LabelOrder.{Ancestry, ByteOrder}
 use Rattle.mm_image.proofs.Rising.{Headed, Nodes, chunks_headed, entries_rise, headed, occurrences_headed, words_rise}
 use Rattle.mm_image.proofs.WordFacts.{Above}
 use Rattle.mm_edit.specs.Difference.{Key}
+use Rattle.mm_edit.specs.Inside.Changes.{words_of}
 use Rattle.mm_edit.specs.Inside.Counting.{count_entry, counts_at}
 use Rattle.mm_edit.specs.Inside.Finding.{find}
 use Rattle.mm_edit.specs.Inside.Nodes.{owned, tally, counted_as, or_else, IsPart}
 use Rattle.mm_edit.proofs.Keys.{same, same_self}
 use Rattle.mm_edit.proofs.Lookups.{Value}
-use Rattle.mm_edit.proofs.Runs.{find-append}
+use Rattle.mm_edit.proofs.Runs.{find-append, tally_joined}
 use Rattle.mm_edit.proofs.Values.{holder_listed, in_count_keys, occurrences_are, owned_find, tally_number, tally_some, word_listed}
 
 abbrev Word : Type 0
@@ -158,9 +160,6 @@ tree_entries order ancestry u n = record {
   at = λ k. find-append (chunks u) (occurrences (worded u)) k ∙ ap (λ z. or_else (find (chunks u) k) z) (occurrences_are u k) ∙ sym (owned_find (preorder u) k);
 }
 
-pub no_entries : AreEntriesOf [] []
-no_entries = record { rises = tt; low = λ e i. absurd i; at = λ k. refl }
-
 pub is_a_word : (u : Trees Labelled) (k : Key) → nat_lt 0 (tally (preorder u) k) ≡ list_any (bytes_eq k) (map count_key (words (worded u)))
 is_a_word u k = by (tally (preorder u) k) refl (list_any (bytes_eq k) (map count_key (words (worded u)))) refl
   where
@@ -182,14 +181,12 @@ is_a_word u k = by (tally (preorder u) k) refl (list_any (bytes_eq k) (map count
         let a = any_at (bytes_eq k) (count_key t.word) (map count_key (words (worded u))) i (subst (λ (z : Key). bytes_eq k z ≡ true) t.key (same_self k)) in
         absurd cc
 
-pub words_taken : (u : Trees Labelled) → AreWordsOf (words (worded u)) (preorder u) []
-words_taken u = record { rise = words_rise (worded u); at = λ k. ap (nat_lt 0) (plus (tally (preorder u) k)) ∙ is_a_word u k }
-  where
-    plus : (n : ℕ) → n + 0 ≡ n
-    plus n = omega arith
+pub preorder_joined : (f g : Trees Labelled) → preorder (and_then f g) ≡ preorder f ++ preorder g
+preorder_joined none g = refl
+preorder_joined (node e inner rest) g = ap (λ z. e ∷ preorder inner ++ z) (preorder_joined rest g) ∙ ap (λ z. e ∷ z) (sym (append_assoc (preorder inner) (preorder rest) (preorder g)))
 
-pub words_given : (u : Trees Labelled) → AreWordsOf (words (worded u)) [] (preorder u)
-words_given u = record { rise = words_rise (worded u); at = λ k. ap (nat_lt 0) (plus (tally (preorder u) k)) ∙ is_a_word u k }
-  where
-    plus : (n : ℕ) → 0 + n ≡ n
-    plus n = omega arith
+pub words_both : (taken given : Trees Labelled) → AreWordsOf (words_of taken given) (preorder taken) (preorder given)
+words_both taken given = record {
+  rise = words_rise (worded (and_then taken given));
+  at = λ k. ap (nat_lt 0) (sym (ap (λ z. tally z k) (preorder_joined taken given) ∙ tally_joined (preorder taken) (preorder given) k)) ∙ is_a_word (and_then taken given) k;
+}

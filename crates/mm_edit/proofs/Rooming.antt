@@ -1,10 +1,11 @@
 -- Puts that keep a value's length have room, whatever the map weighs.
-use Rattle.std.proofs.Common.{inl, inr, ◌≡◌, refl, ap, sym, ◌∙◌, true, [], ◌∷◌, length}
-use Rattle.std.specs.Prelude.{is_some, Some, None, if◌then◌else◌, not, option_map}
+use Rattle.std.proofs.Common.{inl, inr, ◌≡◌, ◌≤◌, ◌+◌, ◌^◌, refl, ap, sym, ◌∙◌, Bool, true, false, List, ℕ, [], ◌∷◌, arith, length}
+use Rattle.std.specs.Prelude.{is_some, Some, None, filter, if◌then◌else◌, not, option_map}
+use Rattle.std.specs.Str.{bytes_eq}
 use Rattle.mm_label.specs.Fronts.{Within}
-use Rattle.mm_keeper.specs.Entries.{Entry, Entries, IsSorted, Rises, has, lookup, put}
+use Rattle.mm_keeper.specs.Entries.{Entry, Entries, IsSorted, Rises, below, has, lookup, put, weight_of, without}
 use Rattle.mm_keeper.specs.Facts.Keys.{Rises-put}
-use Rattle.mm_edit.specs.Difference.{changed, gone, holds, keys, without_all}
+use Rattle.mm_edit.specs.Difference.{Key, changed, gone, holds, keys, without_all}
 use Rattle.mm_edit.specs.Inside.Finding.{find}
 use Rattle.mm_edit.specs.Plans.{HaveRoom}
 use Rattle.mm_edit.proofs.Keys.{differs}
@@ -52,3 +53,42 @@ pub difference_has_room : (m before after : Entries) → Rises m → Rises befor
 difference_has_room m before after r b a h =
     lengths_room (changed before after) (without_all (keys (gone before after)) m) (rises-filter (λ e. not (holds before e)) after a.rises) (rises-without_all (gone before after) m r)
     (puts_stay m before after r b a h)
+
+-- ---- puts that don't fill the map
+
+put_light : (k v : List ℕ) (m : Entries) → weight_of (put m k v) ≤ weight_of m + (length k + length v)
+put_light k v [] = omega arith
+put_light k v (e ∷ m) = by (below e.0 k) (bytes_eq e.0 k) (put_light k v m)
+  where
+    by : (a b : Bool) → weight_of (put m k v) ≤ weight_of m + (length k + length v)
+        → weight_of (if a then e ∷ put m k v else (k, v) ∷ (if b then m else e ∷ m)) ≤ weight_of (e ∷ m) + (length k + length v)
+    by true b h = omega (arith, h)
+    by false true h = omega arith
+    by false false h = omega arith
+
+without_light : (k : List ℕ) (m : Entries) → weight_of (without m k) ≤ weight_of m
+without_light k [] = omega arith
+without_light k (e ∷ m) = by (below e.0 k) (bytes_eq e.0 k) (without_light k m)
+  where
+    by : (a b : Bool) → weight_of (without m k) ≤ weight_of m → weight_of (if a then e ∷ without m k else (if b then m else e ∷ m)) ≤ weight_of (e ∷ m)
+    by true b h = omega (arith, h)
+    by false true h = omega arith
+    by false false h = omega arith
+
+pub light_without : (ks : List Key) (m : Entries) → weight_of (without_all ks m) ≤ weight_of m
+light_without [] m = omega arith
+light_without (k ∷ ks) m = let t = light_without ks (without m k) in let u = without_light k m in omega (arith, t, u)
+
+pub filter_light : (p : Entry → Bool) (m : Entries) → weight_of (filter p m) ≤ weight_of m
+filter_light p [] = omega arith
+filter_light p (e ∷ m) = by (p e) (filter_light p m)
+  where
+    by : (b : Bool) → weight_of (filter p m) ≤ weight_of m → weight_of (if b then e ∷ filter p m else filter p m) ≤ weight_of (e ∷ m)
+    by true h = omega (arith, h)
+    by false h = omega (arith, h)
+
+pub light_room : (es m : Entries) → weight_of m + weight_of es ≤ 2 ^ 42 → HaveRoom m es
+light_room [] m l = tt
+light_room (e ∷ es) m l =
+    let t = put_light e.0 e.1 m in
+    (inr (omega (arith, l, t)), light_room es (put m e.0 e.1) (omega (arith, l, t)))

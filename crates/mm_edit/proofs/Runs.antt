@@ -28,7 +28,7 @@ find-append (e ∷ a) b k = by (bytes_eq e.0 k) (find-append a b k)
 find_joined : (a b : List Labelled) (k : Key) → find (owned (a ++ b)) k ≡ or_else (find (owned a) k) (find (owned b) k)
 find_joined a b k = ap (λ m. find m k) (flat_map-append brought a b) ∙ find-append (owned a) (owned b) k
 
-tally_joined : (a b : List Labelled) (k : Key) → tally (a ++ b) k ≡ tally a k + tally b k
+pub tally_joined : (a b : List Labelled) (k : Key) → tally (a ++ b) k ≡ tally a k + tally b k
 tally_joined [] b k = omega arith
 tally_joined (i ∷ a) b k = omega (arith, tally_joined a b k)
 

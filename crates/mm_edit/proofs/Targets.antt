@@ -1,7 +1,8 @@
 -- The target of an edit, as it is read and as it stands in a forest.
-use Rattle.std.proofs.Common.{inl, inr, ◌≡◌, ◌≤◌, ◌<◌, ◌*◌, refl, ap, sym, subst, ℕ, ℤ, ◌+◌, Bool, true, false, ◌||◌, not, IsTrue, List, [], ◌∷◌, Option, Some, None, arith, length, length-append, length-drop, drop}
+use Rattle.std.proofs.Common.{inl, inr, ◌≡◌, ◌≤◌, ◌<◌, ◌*◌, refl, ap, sym, subst, ℕ, ℤ, ◌+◌, Bool, true, false, ◌||◌, not, List, [], ◌∷◌, Option, Some, None, arith, length, length-append, length-drop, drop}
 use Rattle.std.specs.Prelude.{if◌then◌else◌, nat_lt}
 use Rattle.std.proofs.lemmas.Bool.Decides.{nat_tests}
+use Rattle.std.proofs.lemmas.List.{length-map}
 use Rattle.byteorder.specs.Endian.{big_bytes}
 use Rattle.mm_label.specs.Fronts.{Lt, Within}
 use Rattle.mm_label.specs.Label.{IsLabel}
@@ -10,25 +11,24 @@ use Rattle.mm_label.specs.Facts.Fronts.{front_le}
 use Rattle.mm_label.specs.Facts.Members.{within_joined}
 use Rattle.mm_label.specs.Facts.Ordered.{ordered_joined}
 use Rattle.mm_keeper.specs.Entries.{Entries, Entry, IsSorted, rank}
-use Rattle.mm_tree.specs.Edits.{delete, delete_refusal, found, has_label, has_node}
+use Rattle.mm_tree.specs.Edits.{delete_refusal, found, has_label, has_node}
 use Rattle.mm_tree.specs.Facts.Places.{node_under, preorder_rises}
 use Rattle.mm_tree.specs.Formed.{Formed, node_label}
-use Rattle.mm_tree.specs.Forests.{is_well_formed}
+use Rattle.mm_tree.specs.Forests.{and_then}
 use Rattle.mm_tree.specs.Numbering.{Labelled}
-use Rattle.mm_tree.specs.Search.{worded}
 use Rattle.mm_tree.specs.Trees.{Tree, Trees, none, node, one, preorder}
-use Rattle.mm_tree.specs.Untouched.{DeleteLeaves}
 use Rattle.mm_tree.specs.declared.refusal.Refusal.{Refusal}
 use Rattle.mm_tree.specs.declared.refusal.Refusal.TheVariants.{Absent}
-use Rattle.mm_image.specs.Image.{entries_of, image, words}
+use Rattle.mm_image.specs.Image.{entries_of, image}
 use Rattle.mm_image.specs.Keys.{chunk_key, count_key}
 use Rattle.mm_image.specs.Subtrees.{begins, leading, run_of}
 use Rattle.mm_image.specs.Facts.LabelOrder.{Ancestry, ByteOrder}
 use Rattle.mm_image.specs.Facts.Members.{node_is_valid}
 use Rattle.mm_image.proofs.Rising.{Nodes, entries_rise}
 use Rattle.mm_image.proofs.Standing.{Stands, labelled_formed, stored_label, stored_tree}
+use Rattle.mm_edit.specs.Inside.Changes.{Becomes, change, changes, number_of, words_of}
 use Rattle.mm_edit.specs.Inside.Counting.{count_entry, counts_at}
-use Rattle.mm_edit.proofs.Editing.{Leads, counts_follow, number_of, part_of}
+use Rattle.mm_edit.proofs.Editing.{Leads, both_numbers, counts_follow, counts_within, part_of}
 use Rattle.mm_edit.proofs.Values.{word_listed}
 
 -- ---- refused exactly where no node has the label
@@ -94,25 +94,35 @@ leading_few front (e ∷ m) = by (begins front e) (leading_few front m)
 pub run_few : (label : List ℤ) (m : Entries) → length (run_of label m) ≤ length m
 run_few label m = let t = leading_few (bytes_of label) (drop (rank m (chunk_key label 0)) m) in omega (arith, t, length-drop (rank m (chunk_key label 0)) m)
 
-counts_few : (number : List ℕ → ℕ) (ws : List (List ℕ)) → ((w : List ℕ) → Within w ws → 0 < number w) → length ws ≤ length (counts_at number ws)
-counts_few number [] h = omega arith
-counts_few number (w ∷ ws) h = let t = counts_few number ws (λ v i. h v (inr i)) in let k = one w (number w) (h w (inl refl)) in omega (arith, t, k, length-append (count_entry w (number w)) (counts_at number ws))
+entry_few : (w : List ℕ) (n m : ℕ) → 0 < n + m → 1 ≤ length (count_entry w n) + length (count_entry w m)
+entry_few w n m l = by (nat_lt 0 n) refl (nat_lt 0 m) refl
   where
-    one : (w : List ℕ) (n : ℕ) → 0 < n → 1 ≤ length (count_entry w n)
-    one w n l = by (nat_lt 0 n) refl
-      where
-        by : (b : Bool) → nat_lt 0 n ≡ b → 1 ≤ length {A = Entry} (if b then (count_key w, big_bytes 8 n) ∷ [] else [])
-        by true p = omega arith
-        by false p = absurd (grind (arith, nat_tests))
+    by : (b : Bool) → nat_lt 0 n ≡ b → (c : Bool) → nat_lt 0 m ≡ c → 1 ≤ length {A = Entry} (if b then (count_key w, big_bytes 8 n) ∷ [] else []) + length {A = Entry} (if c then (count_key w, big_bytes 8 m) ∷ [] else [])
+    by true p c q = omega arith
+    by false p true q = omega arith
+    by false p false q = absurd (grind (arith, nat_tests))
 
-pub words_few : DeleteLeaves → (x : List ℤ) (n : Tree Labelled) (f : Trees Labelled) → IsTrue (is_well_formed f) → found x f ≡ Some n
-    → Leads (image f) (image (delete x f)) (part_of f (entries_of (one n)) (words (worded (one n)))) (part_of (delete x f) [] (words (worded (one n))))
-    → length (words (worded (one n))) ≤ length (image f)
-words_few leaves x n f g is a =
-    let t = counts_few (number_of f) (words (worded (one n))) (λ w i. let k = counts_follow f (delete x f) (one n) none (leaves x n f g is) w in let l = word_listed w (one n) i in omega (arith, k, l)) in
-    omega (arith, t, a.few, length-append (entries_of (one n)) (counts_at (number_of f) (words (worded (one n)))))
+counts_few : (number other : List ℕ → ℕ) (ws : List (List ℕ)) → ((w : List ℕ) → Within w ws → 0 < number w + other w) → length ws ≤ length (counts_at number ws) + length (counts_at other ws)
+counts_few number other [] h = omega arith
+counts_few number other (w ∷ ws) h =
+    let t = counts_few number other ws (λ v i. h v (inr i)) in
+    let k = entry_few w (number w) (other w) (h w (inl refl)) in
+    omega (arith, t, k, length-append (count_entry w (number w)) (counts_at number ws), length-append (count_entry w (other w)) (counts_at other ws))
 
-pub delete_cost : (steps read now words run all new : ℕ) → read ≤ steps + 1 + run → run ≤ all → now ≤ read + words → words ≤ all → now ≤ steps + 4 * (all + new + 1)
+-- each word of the nodes has a count before or after
+pub words_few : (f g taken given : Trees Labelled) → Becomes f g taken given
+    → Leads (image f) (image g) (part_of f (entries_of taken) (words_of taken given)) (part_of g (entries_of given) (words_of taken given))
+    → length (changes taken given) ≤ length (image f) + length (image g)
+words_few f g taken given becomes a =
+    let t = counts_few (number_of f) (number_of g) (words_of taken given) (λ w i.
+    let k = counts_follow f g taken given becomes.run w in
+    let l = counts_within f g taken given becomes.run w in
+    let m = word_listed w (and_then taken given) i in
+    let n = both_numbers taken given w in
+    omega (arith, k, l, m, n)) in
+    omega (arith, t, a.few, a.few_after, length-map (words_of taken given) (change taken given), length-append (entries_of taken) (counts_at (number_of f) (words_of taken given)), length-append (entries_of given) (counts_at (number_of g) (words_of taken given)))
+
+pub delete_cost : (steps read now words run all new : ℕ) → read ≤ steps + 1 + run → run ≤ all → now ≤ read + words → words ≤ all + new → now ≤ steps + 4 * (all + new + 1)
 delete_cost steps read now words run all new a b c d = omega arith
 
 pub read_cost : (steps read run all new : ℕ) → read ≤ steps + 1 + run → run ≤ all → read ≤ steps + 4 * (all + new + 1)

@@ -5,3 +5,4 @@ pub mod Nodes
 pub mod Counting
 pub mod Placing
 pub mod Sites
+pub mod Changes

@@ -1,14 +1,18 @@
 -- What a plan says, and what it asks of a keeper.
-use Rattle.std.specs.Prelude.{◌≡◌, ◌≤◌, List, [], ◌∷◌, Option, Some, None, Result, Ok, Err, length}
+use Rattle.std.specs.Prelude.{ℕ, if◌then◌else◌, nat_lt, ◌≡◌, ◌≤◌, List, [], ◌∷◌, Option, Some, None, Result, Ok, Err, length}
 use Rattle.mm_host.specs.declared.damage.Fault.{Fault}
 use Rattle.mm_host.specs.declared.damage.Fault.TheVariants as fault
+use Rattle.mm_image.specs.Image.{image}
 use Rattle.mm_image.specs.Subtrees.{IsUndamaged}
+use Rattle.mm_tree.specs.Numbering.{Labelled}
+use Rattle.mm_tree.specs.Trees.{Trees}
 use Rattle.mm_tree.specs.declared.refusal.Refusal.{Refusal}
 use Rattle.mm_tree.specs.declared.refusal.TreeError.{TreeError}
 use Rattle.mm_tree.specs.declared.refusal.TreeError.TheVariants as tree
+use Rattle.mm_tree.specs.declared.refusal.Refusal.TheVariants.{Full}
 use Rattle.mm_edit.specs.declared.plan.EditError.{EditError}
 use Rattle.mm_edit.specs.declared.plan.EditError.TheVariants as error
-use Rattle.mm_keeper.specs.Entries.{Entry, Entries, HasRoom, put}
+use Rattle.mm_keeper.specs.Entries.{Entry, Entries, HasRoom, put, weight_of}
 use Rattle.mm_tree.specs.declared.forest.Done.{Done}
 use Rattle.mm_edit.specs.Difference.{Key, without_all}
 
@@ -50,3 +54,17 @@ abbrev pub edit_fault : {T : Type 0} → Result T EditError → Option Fault
 edit_fault (Ok plan) = None
 edit_fault (Err (error.Refused r)) = None
 edit_fault (Err (error.Fault f)) = Some f
+
+-- the map of the forest would pass the limit
+abbrev pub full_refusal : ℕ → Trees Labelled → Option Refusal
+full_refusal limit after = if nat_lt limit (weight_of (image after)) then Some Full else None
+
+-- the refusal by what place, target and tree tell; or else by the weight of the map afterwards
+abbrev pub or_full : Option Refusal → ℕ → Trees Labelled → Option Refusal
+or_full None limit after = full_refusal limit after
+or_full (Some r) limit after = Some r
+
+-- of a fault this holds
+abbrev pub IfFault : (Fault → Type 0) → EditError → Type 0
+IfFault P (error.Refused r) = Unit {0}
+IfFault P (error.Fault f) = P f

@@ -9,6 +9,7 @@ ghost use Rattle.mm_keeper.specs.Keeping.{fault_of};
 ghost use Rattle.mm_edit.specs.Inside.Counting.{AreTold, BlamesCount, BlamesCounts, BlamesNumber, IsOwn, TellsNumber, count_entry, counts_held, counts_left, number_held};
 ghost use Rattle.mm_edit.specs.Plans.{AreSized};
 
+use crate::changing::WordChange;
 use mm_host::{Bytes, Damage, Fault};
 use mm_image::{Entries, Entry, count_key, count_of};
 use mm_keeper::Keeper;
@@ -87,12 +88,11 @@ fn push_count(
     Ok(())
 }
 
-/// Puts the counts of these words behind the one list, and behind the other those that are left without so many
-/// nodes.
+/// Puts the counts of these words behind the one list, and behind the other those that the change leaves.
 pub fn push_counts<K: Keeper, L: Ledger>(
     alloc: Global,
     keeper: &mut K,
-    words: &[(Word, u64)],
+    words: &[WordChange],
     before: &mut Entries,
     after: &mut Entries,
     steps: &mut Steps<L>,
@@ -107,10 +107,13 @@ pub fn push_counts<K: Keeper, L: Ledger>(
     ensures accounts { Accounts K.is_sound K.is_spent K.fault_count K.want_count keeper.old keeper.new (fault_of result) }
     ensures cost { steps.new ≤ steps.old + length words.now }
 {
-    for (word, taken) in words {
-        let held = held_count(alloc, keeper, word, steps)?;
-        push_count(alloc, before, word, held)?;
-        push_count(alloc, after, word, held.saturating_sub(*taken))?;
+    for change in words {
+        let held = held_count(alloc, keeper, &change.word, steps)?;
+        let left = held
+            .saturating_sub(change.taken)
+            .saturating_add(change.given);
+        push_count(alloc, before, &change.word, held)?;
+        push_count(alloc, after, &change.word, left)?;
     }
     Ok(())
 }

@@ -113,14 +113,14 @@ fn push_occurrences(
     Ok(())
 }
 
-/// The chunk and occurrence entries of the node and of all below it, in the order of their keys.
-pub fn entries(alloc: Global, node: &Node) -> Result<Entries, AllocError>
-    requires { IsTrue (every has_valid_kind (one (node_of node.now))) }
-    ensures { IfOk result (λ entries. keyed entries ≡ entries_of (one (node_of node.now))) }
+/// The chunk and occurrence entries of the nodes and of all below them, in the order of their keys.
+pub fn entries(alloc: Global, nodes: &[Node]) -> Result<Entries, AllocError>
+    requires { IsTrue (every has_valid_kind (forest_of nodes.now)) }
+    ensures { IfOk result (λ entries. keyed entries ≡ entries_of (forest_of nodes.now)) }
 {
     let mut entries = Items::new(alloc);
-    push_all_chunks(alloc, slice::from_ref(node), &mut entries)?;
-    let lists = keyword_lists(alloc, slice::from_ref(node))?;
+    push_all_chunks(alloc, nodes, &mut entries)?;
+    let lists = keyword_lists(alloc, nodes)?;
     push_occurrences(alloc, &lists, &mut entries)?;
     Ok(entries)
 }

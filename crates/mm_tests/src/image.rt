@@ -13,6 +13,7 @@ use mm_tree::{Forest, Kind, Node};
 use mm_xml::read;
 use std::alloc::{AllocError, Global};
 use std::marker::Brand;
+use std::slice;
 use std::sync::ledger::{Blank, Ledger};
 use std::test::Fail;
 
@@ -22,7 +23,7 @@ fn first_entries(alloc: Global, forest: &Forest) -> Result<Entries, Fail> {
     if trees.is_empty() {
         return Err("no tree")?;
     }
-    Ok(entries(alloc, &trees[0])?)
+    Ok(entries(alloc, slice::from_ref(&trees[0]))?)
 }
 
 fn push_spelled(alloc: Global, text: &mut String, bytes: &[u8]) -> Result<(), AllocError> {

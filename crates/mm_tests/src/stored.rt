@@ -16,6 +16,7 @@ use mm_steps::Steps;
 use mm_tree::{Forest, Fragment, Node, elca, keyword_lists};
 use mm_words::Query;
 use std::alloc::Global;
+use std::slice;
 use std::sync::ledger::{Blank, Ledger};
 
 fn put_entries<K: Keeper, L: Ledger>(
@@ -48,7 +49,7 @@ fn put_trees<K: Keeper, L: Ledger>(
     ensures maps { K.has_maps keeper.old ↔ K.has_maps keeper.new }
 {
     for root in trees {
-        if !put_entries(&entries(alloc, root)?, keeper, steps) {
+        if !put_entries(&entries(alloc, slice::from_ref(root))?, keeper, steps) {
             return Ok(false);
         }
     }

@@ -1,5 +1,5 @@
 -- The counts of some words, as entries.
-use Rattle.std.specs.Prelude.{ℕ, ◌-◌, ◌≡◌, List, [], ◌∷◌, Option, Some, None, flat_map, map, if◌then◌else◌, nat_lt, ⊤}
+use Rattle.std.specs.Prelude.{ℕ, ◌+◌, ◌-◌, ◌^◌, ◌≡◌, min, List, [], ◌∷◌, Option, Some, None, flat_map, map, if◌then◌else◌, nat_lt, ⊤}
 use Rattle.byteorder.specs.Endian.{big_bytes}
 use Rattle.mm_host.specs.declared.damage.Damage.TheVariants as damage
 use Rattle.mm_host.specs.declared.damage.Fault.{Fault}
@@ -8,6 +8,7 @@ use Rattle.mm_label.specs.Fronts.{Within}
 use Rattle.mm_keeper.specs.Entries.{Entries, Entry, lookup}
 use Rattle.mm_image.specs.Content.{count_in}
 use Rattle.mm_image.specs.Keys.{count_key}
+use Rattle.mm_edit.specs.declared.changing.WordChange.{WordChange}
 
 -- the entry of a word's count, where it isn't 0
 abbrev pub count_entry : List ℕ → ℕ → Entries
@@ -34,16 +35,20 @@ or_zero (Some n) = n
 abbrev pub held : Entries → List ℕ → ℕ
 held m w = or_zero (number_held m w)
 
--- the counts of these words, and what is left of them without so many nodes
-abbrev pub counts_held : Entries → List (List ℕ × ℕ) → Entries
-counts_held m ts = flat_map (λ t. count_entry t.0 (held m t.0)) ts
+-- a count without the nodes that leave and with those that come, as far as eight bytes go
+abbrev pub number_after : ℕ → WordChange → ℕ
+number_after n t = min (n - t.taken + t.given) (2 ^ 64 - 1)
 
-abbrev pub counts_left : Entries → List (List ℕ × ℕ) → Entries
-counts_left m ts = flat_map (λ t. count_entry t.0 (held m t.0 - t.1)) ts
+-- the counts of these words, and what the change leaves of them
+abbrev pub counts_held : Entries → List WordChange → Entries
+counts_held m ts = flat_map (λ t. count_entry t.word (held m t.word)) ts
+
+abbrev pub counts_left : Entries → List WordChange → Entries
+counts_left m ts = flat_map (λ t. count_entry t.word (number_after (held m t.word) t)) ts
 
 -- each of these words' counts tells its number
-abbrev pub AreTold : Entries → List (List ℕ × ℕ) → Type 0
-AreTold m ts = map (λ t. number_held m t.0) ts ≡ map (λ t. Some (held m t.0)) ts
+abbrev pub AreTold : Entries → List WordChange → Type 0
+AreTold m ts = map (λ t. number_held m t.word) ts ≡ map (λ t. Some (held m t.word)) ts
 
 -- where it is damage, it is that of this key, and so
 abbrev pub Blames : (List ℕ → Type 0) → Fault → Type 0
@@ -75,8 +80,8 @@ BlamesNumber (Some e) f = Blames (λ key. (key ≡ e.0) × (count_in e.1 ≡ Non
 abbrev pub BlamesCount : Entries → List ℕ → Fault → Type 0
 BlamesCount m w f = Blames (λ key. (key ≡ count_key w) × (number_held m w ≡ None)) f
 
-abbrev pub BlamesCounts : Entries → List (List ℕ × ℕ) → Fault → Type 0
-BlamesCounts m ts f = Blames (λ key. (t : List ℕ × ℕ) × Within t ts × (key ≡ count_key t.0) × (number_held m t.0 ≡ None)) f
+abbrev pub BlamesCounts : Entries → List WordChange → Fault → Type 0
+BlamesCounts m ts f = Blames (λ key. (t : WordChange) × Within t ts × (key ≡ count_key t.word) × (number_held m t.word ≡ None)) f
 
 -- want of memory, or damage
 abbrev pub IsOwn : Fault → Type 0

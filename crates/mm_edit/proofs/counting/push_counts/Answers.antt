@@ -7,8 +7,8 @@ use Rattle.mm_edit.proofs.counting.push_counts.Goals as goal
 pub returns-in_err-held-clause-damaged : goal.returns-in_err-held-clause-damaged
 returns-in_err-held-clause-damaged g c = λ maps.
     let m = (g.K.Keeper.seen c.args.keeper.now).now in
-    let t = c.loop-word-item.result in
-    let ground = c.loop-word.invariant.ground in
-    let blamed = blamed_counts m c.args.words.now t c.loop-word.word-index c.in_err-held.field-0.0 c.loop-word-test.true c.loop-word-item.is
-    (subst (λ (z : Entries). BlamesCount z t.0 c.in_err-held.field-0.0) (ap (λ z. z.now) (ground.same maps)) (c.in_err-held.ensures.damaged (ground.maps.0 maps))) in
+    let t = c.change-item.result in
+    let ground = c.loop-change.invariant.ground in
+    let blamed = blamed_counts m c.args.words.now t c.loop-change.change-index c.in_err-held.field-0.0 c.loop-change-test.true c.change-item.is
+    (subst (λ (z : Entries). BlamesCount z t.word c.in_err-held.field-0.0) (ap (λ z. z.now) (ground.same maps)) (c.in_err-held.ensures.damaged (ground.maps.0 maps))) in
     err_told c.from_residual.result c.from_residual.ensures.1 (λ f q. subst (BlamesCounts m c.args.words.now) (sym q) blamed)

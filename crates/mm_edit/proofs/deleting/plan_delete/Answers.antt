@@ -3,12 +3,13 @@ use Rattle.std.specs.Prelude.{option_map, min, ◌^◌, ◌-◌, length}
 use Rattle.mm_keeper.specs.Entries.{Entries}
 use Rattle.mm_tree.specs.Edits.{delete, size_of}
 use Rattle.mm_tree.specs.Numbering.{Labelled, node_of}
-use Rattle.mm_tree.specs.Trees.{Tree}
+use Rattle.mm_tree.specs.Trees.{Tree, none, one}
 use Rattle.mm_image.specs.Image.{image}
 use Rattle.mm_image.specs.Subtrees.{run_of}
 use Rattle.mm_image.proofs.Standing.{stands}
 use Rattle.mm_edit.specs.Plans.{HasRoomFor}
-use Rattle.mm_edit.proofs.Editing.{delete_leads}
+use Rattle.mm_edit.specs.Inside.Changes.{Becomes}
+use Rattle.mm_edit.proofs.Editing.{swap_leads}
 use Rattle.mm_edit.proofs.Targets.{accepted, delete_cost, read_cost, refused, run_few, standing_rises, words_few}
 use Rattle.mm_edit.proofs.deleting.plan_delete.Goals as goal
 
@@ -21,7 +22,11 @@ returns-in-Ok-clause-accepted g c = λ f s. accepted c.args.target.now f (node_o
 pub returns-in-Ok-clause-difference : goal.returns-in-Ok-clause-difference
 returns-in-Ok-clause-difference g c = λ f s.
     let ground = c.in-Ok-Some.ensures.ground in
-    c.in-Ok.ensures.difference c.args.target.now f (ground.maps.0 s.0, s.1, ap (λ z. z.now) (ground.same s.0) ∙ s.2) (sym (c.in-Ok-Some.ensures.image f s) ∙ ap (option_map node_of) c.in-Ok-Some.field-0-is)
+    let x = c.args.target.now in
+    let n = node_of c.in-Ok-Some.node in
+    let is = sym (c.in-Ok-Some.ensures.image f s) ∙ ap (option_map node_of) c.in-Ok-Some.field-0-is in
+    c.in-Ok.ensures.difference f (delete x f) (ground.maps.0 s.0, s.1, ap (λ z. z.now) (ground.same s.0) ∙ s.2)
+    (record { formed = c.edits_stay_formed.ensures.delete x f s.1; run = c.untouched.ensures.delete x n f s.1 is })
 
 pub returns-in-Ok-clause-label : goal.returns-in-Ok-clause-label
 returns-in-Ok-clause-label g c = c.in-Ok.ensures.label ∙ sym (stands c.args.target.now (node_of c.in-Ok-Some.node) (rw c.in-Ok-Some.field-0-is at c.in-Ok-Some.ensures.tree)).same
@@ -41,9 +46,10 @@ returns-in-Ok-clause-cost g c = λ f s.
     let x = c.args.target.now in
     let n = node_of c.in-Ok-Some.node in
     let is = sym (c.in-Ok-Some.ensures.image f s) ∙ ap (option_map node_of) c.in-Ok-Some.field-0-is in
-    let leads = delete_leads c.keys_are_apart.ensures c.images_rise.ensures c.byte_order.ensures c.ancestry.ensures c.untouched.ensures.delete c.edits_stay_formed.ensures.delete x n f s.1 is in
+    let becomes : Becomes f (delete x f) (one n) none = record { formed = c.edits_stay_formed.ensures.delete x f s.1; run = c.untouched.ensures.delete x n f s.1 is } in
+    let leads = swap_leads c.keys_are_apart.ensures c.images_rise.ensures c.byte_order.ensures c.ancestry.ensures f (delete x f) (one n) none s.1 becomes in
     delete_cost c.args.steps.now c.subtree.new.steps c.plan_without.new.steps _ (length (run_of x m)) (length (image f)) (length (image (delete x f))) (c.subtree.ensures.cost s.0)
-    (subst (λ (z : Entries). length (run_of x m) ≤ length z) s.2 (run_few x m)) c.plan_without.ensures.cost (words_few c.untouched.ensures.delete x n f s.1 is leads)
+    (subst (λ (z : Entries). length (run_of x m) ≤ length z) s.2 (run_few x m)) c.plan_without.ensures.cost (words_few f (delete x f) (one n) none becomes leads)
 
 pub returns-in-Ok-Some-clause-cost : goal.returns-in-Ok-Some-clause-cost
 returns-in-Ok-Some-clause-cost g c = λ f s.
@@ -51,9 +57,10 @@ returns-in-Ok-Some-clause-cost g c = λ f s.
     let x = c.args.target.now in
     let n = node_of c.in-Ok-Some.node in
     let is = sym (c.in-Ok-Some.ensures.image f s) ∙ ap (option_map node_of) c.in-Ok-Some.field-0-is in
-    let leads = delete_leads c.keys_are_apart.ensures c.images_rise.ensures c.byte_order.ensures c.ancestry.ensures c.untouched.ensures.delete c.edits_stay_formed.ensures.delete x n f s.1 is in
+    let becomes : Becomes f (delete x f) (one n) none = record { formed = c.edits_stay_formed.ensures.delete x f s.1; run = c.untouched.ensures.delete x n f s.1 is } in
+    let leads = swap_leads c.keys_are_apart.ensures c.images_rise.ensures c.byte_order.ensures c.ancestry.ensures f (delete x f) (one n) none s.1 becomes in
     delete_cost c.args.steps.now c.subtree.new.steps c.plan_without.new.steps _ (length (run_of x m)) (length (image f)) (length (image (delete x f))) (c.subtree.ensures.cost s.0)
-    (subst (λ (z : Entries). length (run_of x m) ≤ length z) s.2 (run_few x m)) c.plan_without.ensures.cost (words_few c.untouched.ensures.delete x n f s.1 is leads)
+    (subst (λ (z : Entries). length (run_of x m) ≤ length z) s.2 (run_few x m)) c.plan_without.ensures.cost (words_few f (delete x f) (one n) none becomes leads)
 
 pub returns-in-Ok-None-clause-cost : goal.returns-in-Ok-None-clause-cost
 returns-in-Ok-None-clause-cost g c = λ f s.
