@@ -1,7 +1,7 @@
 //! The plans of a load, an insertion and a replacement: refused by what the place, the target and the tree tell, and
 //! by the weight of the map afterwards last.
 
-ghost use Rattle.std.specs.Prelude.{◌≡◌, ◌*◌, ◌+◌, ◌^◌, ◌≤◌, ⊥, IfOk, IfErr, IsTrue, None, OnOk, length};
+ghost use Rattle.std.specs.Prelude.{◌≡◌, ◌*◌, ◌+◌, ◌^◌, ◌≤◌, IfOk, IfErr, IsTrue, None, OnOk, length};
 ghost use Rattle.mm_image.specs.Ground.{Accounts, HoldsImage, SameGround};
 ghost use Rattle.mm_image.specs.Image.{image};
 ghost use Rattle.mm_tree.specs.Edits.{insert, insert_refusal, inserted_label, replace, replace_refusal};
