@@ -6,7 +6,7 @@ use Rattle.mm_tree.specs.declared.forest.place.Place.{Place}
 use Rattle.mm_tree.specs.declared.plain.Kind.{Kind}
 use Rattle.mm_tree.specs.declared.refusal.Refusal.{Refusal}
 use Rattle.mm_tree.specs.declared.refusal.Refusal.TheVariants.{Absent}
-use Rattle.mm_tree.specs.Edits.{found, has_node, insert, insert_refusal, inserted_label, placed_refusal, replace, replace_refusal}
+use Rattle.mm_tree.specs.Edits.{delete_refusal, found, has_node, insert, insert_refusal, inserted_label, placed_refusal, replace, replace_refusal}
 use Rattle.mm_tree.specs.Forests.{is_well_formed, load, load_refusal, next_label, numbered_behind}
 use Rattle.mm_tree.specs.Numbering.{Labelled, number}
 use Rattle.mm_tree.specs.Staying.{InsertStaysFormed, LoadStaysFormed, ReplaceStaysFormed}
@@ -60,6 +60,21 @@ insert_becomes leaves stays place x t f u w v r e = subst (λ (z : Tree Labelled
 pub replace_becomes : ReplaceLeaves → ReplaceStaysFormed → (x : List ℤ) (n : Tree Labelled) (t : Tree Kind) (f : Trees Labelled) (u : Tree Labelled) → IsTrue (is_well_formed f) → IsTrue (is_valid_tree t)
     → found x f ≡ Some n → replace_refusal x t f ≡ None → u ≡ number x t → Becomes f (replace x t f) (one n) (one u)
 replace_becomes leaves stays x n t f u w v is r e = subst (λ (z : Tree Labelled). Becomes f (replace x t f) (one n) (one z)) (sym e) (record { formed = stays x t f w v r; run = leaves x n t f w is })
+
+-- its causes, once it is known whether a node has the label
+pub replaced_as : (x : List ℤ) (t : Tree Kind) (f : Trees Labelled) → delete_refusal x f ≡ None → replace_refusal x t f ≡ placed_refusal (level x - 1) x t
+replaced_as x t f h = by (has_node x f) h
+  where
+    by : (b : Bool) → (if not b then Some Absent else None) ≡ None → (if not b then Some Absent else placed_refusal (level x - 1) x t) ≡ placed_refusal (level x - 1) x t
+    by true h = refl
+    by false h = absurd cc
+
+pub replaced_absent : (x : List ℤ) (t : Tree Kind) (f : Trees Labelled) → delete_refusal x f ≡ Some Absent → replace_refusal x t f ≡ Some Absent
+replaced_absent x t f h = by (has_node x f) h
+  where
+    by : (b : Bool) → (if not b then Some Absent else None) ≡ Some Absent → (if not b then Some Absent else placed_refusal (level x - 1) x t) ≡ Some Absent
+    by true h = absurd cc
+    by false h = refl
 
 -- ---- numbers
 
