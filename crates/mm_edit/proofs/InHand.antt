@@ -215,6 +215,18 @@ pub record Standing (m : Entries) (f g taken given : Trees Labelled) (before aft
   pub before_is : before ≡ entries_of taken ++ counts_held m (changes taken given)
   pub after_is : after ≡ entries_of given ++ counts_left m (changes taken given)
 
+-- as two calls tell it, of which one read the nodes that come
+pub stands : (m : Entries) (f g taken read given : Trees Labelled) (before after : Entries) (now : ℕ) → IsTrue (is_well_formed f) × (m ≡ image f) → now ≡ weight_of m → now < 2 ^ 64 → Becomes f g taken given → read ≡ given
+    → before ≡ entries_of taken ++ counts_held m (changes taken read) → after ≡ entries_of read ++ counts_left m (changes taken read) → Standing m f g taken given before after
+stands m f g taken read given before after now s n l becomes e b a = record {
+  formed = s.0;
+  map_is = s.1;
+  light = subst (λ (k : ℕ). k < 2 ^ 64) n l;
+  becomes = becomes;
+  before_is = subst (λ (z : Trees Labelled). before ≡ entries_of taken ++ counts_held m (changes taken z)) e b;
+  after_is = subst (λ (z : Trees Labelled). after ≡ entries_of z ++ counts_left m (changes taken z)) e a;
+}
+
 module _ (laws : Laws) {m : Entries} {f g taken given : Trees Labelled} {before after : Entries} (s : Standing m f g taken given before after) where
   few : weight_of (image f) < 2 ^ 64
   few = subst (λ (z : Entries). weight_of z < 2 ^ 64) s.map_is s.light

@@ -54,6 +54,7 @@ fn plan_within(
     if now.saturating_sub(before).saturating_add(after) > limit {
         return Err(EditError::Refused(Refusal::Full));
     }
+    // No memory holds as many, and their puts might not fit beside them.
     if before > PART_LIMIT {
         return Err(EditError::Fault(Fault::Memory));
     }

@@ -47,7 +47,7 @@ fn pass<X: Lists, L: Ledger>(
         → Gathering (lists_of words.now (worded f)) (list_of (get_or words.now own []) (worded f)) i found.old at.old
         → OnOk result (Gathering (lists_of words.now (worded f)) (list_of (get_or words.now own []) (worded f)) (i + 1) found.new at.new) }
     ensures count { OnOk result (length found.new ≤ length found.old + 1) }
-    ensures leaves { Leaves X.stands X.same_ground X.fault_count X.spent lists.old lists.new result }
+    ensures leaves { Leaves X.stands X.same_ground X.blames X.fault_count X.spent lists.old lists.new result }
     ensures cost { steps.new + 1 ≤ steps.old + 2 * length words.now }
 {
     let next = next_candidate(alloc, words, own, at, lists, steps)?;
@@ -81,7 +81,7 @@ pub fn gather<X: Lists, L: Ledger>(
         → IfOk result (λ r. Gathered (lists_of words.now (worded f)) (list_of (get_or words.now own []) (worded f)) r) }
     ensures order { IfOk result Ascends }
     ensures count { IfOk result (λ r. length r ≤ size) }
-    ensures leaves { Leaves X.stands X.same_ground X.fault_count X.spent lists.old lists.new result }
+    ensures leaves { Leaves X.stands X.same_ground X.blames X.fault_count X.spent lists.old lists.new result }
     ensures cost { steps.new + size ≤ steps.old + 1 + 2 * length words.now * size }
 {
     let mut found = Items::new(alloc);

@@ -54,7 +54,7 @@ fn judge<X: Lists, L: Ledger>(
     ensures stack { (f : Trees Labelled) (passed : List Label) → Ready (lists_of words.now (worded f)) x passed → Stacked passed held.old.stack → OnOk result (Stacked (x ∷ passed) held.new.stack) }
     ensures done { (f : Trees Labelled) (passed : List Label) → X.stands lists.old f → Ready (lists_of words.now (worded f)) x passed → Stacked passed held.old.stack
         → Judged (IsOwner (lists_of words.now (worded f))) passed held.old.done → OnOk result (Judged (IsOwner (lists_of words.now (worded f))) (x ∷ passed) held.new.done) }
-    ensures leaves { Leaves X.stands X.same_ground X.fault_count X.spent lists.old lists.new result }
+    ensures leaves { Leaves X.stands X.same_ground X.blames X.fault_count X.spent lists.old lists.new result }
     ensures cost { OnOk result (steps.new + length words.now * length held.new.stack ≤ steps.old + length words.now * length held.old.stack + 2 * length words.now) }
     ensures most { steps.new ≤ steps.old + length words.now * (1 + length held.old.stack) }
 {
@@ -75,7 +75,7 @@ fn judge_all<X: Lists, L: Ledger>(
     steps: &mut Steps<L>,
 ) -> Result<Items<Label>, Fault>
     ensures value { (f : Trees Labelled) → X.stands lists.old f → Candidates (lists_of words.now (worded f)) candidates → IfOk result (λ r. Judged (IsOwner (lists_of words.now (worded f))) candidates r) }
-    ensures leaves { Leaves X.stands X.same_ground X.fault_count X.spent lists.old lists.new result }
+    ensures leaves { Leaves X.stands X.same_ground X.blames X.fault_count X.spent lists.old lists.new result }
     ensures cost { steps.new ≤ steps.old + 2 * length words.now * length candidates }
 {
     let mut held = Held {
@@ -101,7 +101,7 @@ fn answer_list<X: Lists, L: Ledger>(
     requires { own < length words.now }
     ensures value { (f : Trees Labelled) → IsTrue (is_well_formed f) → X.stands lists.old f → MeetsAll [] (lists_of words.now (worded f)) → length (list_of (get_or words.now own []) (worded f)) ≡ size
         → IfOk result (λ r. r ≡ elca words.now (worded f)) }
-    ensures leaves { Leaves X.stands X.same_ground X.fault_count X.spent lists.old lists.new result }
+    ensures leaves { Leaves X.stands X.same_ground X.blames X.fault_count X.spent lists.old lists.new result }
     ensures cost { steps.new + size ≤ steps.old + 1 + 4 * length words.now * size }
 {
     let candidates = gather(alloc, words, own, size, lists, steps)?;
@@ -117,8 +117,8 @@ fn answer_list<X: Lists, L: Ledger>(
 /// # Errors
 ///
 /// `Memory` where there was none, and else what the lists refuse: `DiskFault` only where their count of
-/// faults rose in this call, `Spent` only where they were spent before, `Damaged` never where they stand
-/// for a forest.
+/// faults rose in this call, `Spent` only where they were spent before, `Damaged` only with what is damaged
+/// there, and never where they stand for a forest.
 pub fn answers<X: Lists, L: Ledger>(
     alloc: Global,
     query: &Query,
@@ -126,7 +126,7 @@ pub fn answers<X: Lists, L: Ledger>(
     steps: &mut Steps<L>,
 ) -> Result<Items<Label>, Fault>
     ensures value { (f : Trees Labelled) → IsTrue (is_well_formed f) → X.stands lists.old f → IfOk result (λ r. r ≡ elca query.now (worded f)) }
-    ensures leaves { Leaves X.stands X.same_ground X.fault_count X.spent lists.old lists.new result }
+    ensures leaves { Leaves X.stands X.same_ground X.blames X.fault_count X.spent lists.old lists.new result }
     ensures cost { (f : Trees Labelled) → X.stands lists.old f → steps.new ≤ steps.old + cost_of (lists_of query.now (worded f)) }
 {
     let words = query.words();

@@ -26,7 +26,7 @@ fn skip<X: Lists, L: Ledger>(
 ) -> Result<Option<Label>, Fault>
     ensures value { (f : Trees Labelled) (x : Label) (ks : List Label) → X.stands lists.old f → IsNextChild x kid.now ks → IsFirstClear (list_of word.now (worded f)) x ks found
         → IfOk result (λ o. IsFirstClear (list_of word.now (worded f)) x (ks ++ kid.now ∷ []) o) }
-    ensures leaves { Leaves X.stands X.same_ground X.fault_count X.spent lists.old lists.new result }
+    ensures leaves { Leaves X.stands X.same_ground X.blames X.fault_count X.spent lists.old lists.new result }
     ensures cost { steps.new ≤ steps.old + 1 }
 {
     let Some(p) = found else {
@@ -56,7 +56,7 @@ fn own_match<X: Lists, L: Ledger>(
     steps: &mut Steps<L>,
 ) -> Result<bool, Fault>
     ensures value { (f : Trees Labelled) → X.stands lists.old f → AreChildren x.now kids.now → IfOk result (λ b. HasClear (list_of word.now (worded f)) x.now kids.now b) }
-    ensures leaves { Leaves X.stands X.same_ground X.fault_count X.spent lists.old lists.new result }
+    ensures leaves { Leaves X.stands X.same_ground X.blames X.fault_count X.spent lists.old lists.new result }
     ensures cost { steps.new ≤ steps.old + 1 + length kids.now }
 {
     let mut found = lists.right(word, x, steps)?;
@@ -82,7 +82,7 @@ pub fn owns_each<X: Lists, L: Ledger>(
     steps: &mut Steps<L>,
 ) -> Result<bool, Fault>
     ensures value { (f : Trees Labelled) → X.stands lists.old f → AreChildren x.now kids.now → IfOk result (λ b. HaveClear (lists_of words.now (worded f)) x.now kids.now b) }
-    ensures leaves { Leaves X.stands X.same_ground X.fault_count X.spent lists.old lists.new result }
+    ensures leaves { Leaves X.stands X.same_ground X.blames X.fault_count X.spent lists.old lists.new result }
     ensures cost { steps.new ≤ steps.old + length words.now * (1 + length kids.now) }
 {
     let mut so_far = true;

@@ -11,6 +11,7 @@ use Rattle.mm_tree.specs.Formed.{Formed, node_label}
 use Rattle.mm_label.specs.Facts.Fronts.{front_refl}
 use Rattle.mm_label.specs.Facts.Order.{same_label, label_same, label_other}
 use Rattle.mm_tree.specs.Facts.Nodes.{Stands}
+use Rattle.mm_image.specs.Facts.Naming.{found_stands}
 use Rattle.mm_tree.specs.Facts.Places.{node_under, node_apart}
 use Rattle.mm_tree.specs.Facts.Runs.{subtree_run}
 use Rattle.mm_label.specs.Facts.Members.{within_joined, within_first, within_second}
@@ -65,19 +66,6 @@ node_found y (node d inner rest) e u w = elim w [
     not_inside a false q = refl
 
 -- ---- what is found
-
-some_same : (u v : Tree Labelled) → Some u ≡ Some v → u ≡ v
-some_same u v e = cc
-
-pub found_stands : (x : Label) (f : Trees Labelled) (t : Tree Labelled) → found x f ≡ Some t → Stands t.0 t.1 f × (t.0.label ≡ x)
-found_stands x none t h = absurd cc
-found_stands x (node e inner rest) t h = by (has_label x e) refl (edits.has_node x inner) h (found_stands x inner t) (found_stands x rest t)
-  where
-    by : (a : Bool) → has_label x e ≡ a → (b : Bool) → cond a (Some (e, inner)) (cond b (found x inner) (found x rest)) ≡ Some t → (found x inner ≡ Some t → Stands t.0 t.1 inner × (t.0.label ≡ x))
-        → (found x rest ≡ Some t → Stands t.0 t.1 rest × (t.0.label ≡ x)) → Stands t.0 t.1 (node e inner rest) × (t.0.label ≡ x)
-    by true k b h p q = subst (λ (u : Tree Labelled). Stands u.0 u.1 (node e inner rest) × (u.0.label ≡ x)) (some_same (e, inner) t h) (inl (refl, refl), same_label e.label x k)
-    by false k true h p q = let r = p h in (inr (inl r.0), r.1)
-    by false k false h p q = let r = q h in (inr (inr r.0), r.1)
 
 -- a node of well-formed trees with its children is a well-formed tree
 stands_formed : (y : Label) (d : Labelled) (low f : Trees Labelled) → whole y ≡ y → Formed node_label y f → Stands d low f → (up : Label) × (whole up ≡ up) × Formed node_label up (one (d, low))

@@ -12,6 +12,7 @@ use Rattle.mm_tree.specs.Hits.{name_if}
 use Rattle.mm_tree.specs.Edits.{found}
 use Rattle.mm_tree.specs.Fragments.{Named, named, named_as, shown, fragment}
 use Rattle.mm_tree.specs.Formed.{Formed, name_label, node_label}
+use Rattle.mm_fragment.specs.Inside.Keeping.{AreMasks}
 use Rattle.mm_fragment.specs.Inside.Marked.{Rowed, marked, rows_in, pruned, show_all, mark_of}
 use Rattle.mm_fragment.specs.Matching.{open_nodes, matches_of}
 use Rattle.mm_tree.specs.Rebuild.{rebuild}
@@ -21,7 +22,7 @@ use Rattle.mm_label.specs.Facts.Members.{within_first, within_in}
 use Rattle.mm_fragment.proofs.LinkForest.{node_found, IsFound, found_is}
 use Rattle.mm_tree.specs.Facts.Formed.{formed}
 use Rattle.mm_fragment.proofs.LinkPaths.{Word, words_match}
-use Rattle.mm_fragment.proofs.LinkMasks.{AreMasks, matches_at, kept_are, matches_are, are_matches, open_below}
+use Rattle.mm_fragment.proofs.LinkMasks.{matches_at, kept_are, matches_are, are_matches, open_below}
 use Rattle.mm_tree.specs.Facts.Rebuild.{rebuilt}
 use Rattle.mm_fragment.proofs.MarkedFacts.{contributors_are}
 use Rattle.mm_fragment.proofs.MarkedOpen.{cleared, cleared_formed, marked_is, marked_formed, marked_in, pruned_formed, pruned_in}

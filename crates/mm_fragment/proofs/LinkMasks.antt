@@ -9,6 +9,7 @@ use Rattle.mm_tree.specs.Trees.{Trees, Tree, none, node, one, preorder}
 use Rattle.mm_tree.specs.Search.{has}
 use Rattle.mm_tree.specs.Fragments.{Named, bare}
 use Rattle.mm_tree.specs.Formed.{Formed, name_label}
+use Rattle.mm_fragment.specs.Inside.Keeping.{AreMasks}
 use Rattle.mm_fragment.specs.Inside.Marked.{Rowed, marked, rows_in, pruned, mask_of, mark_of, coded}
 use Rattle.mm_fragment.specs.Matching.{open_nodes, matches_of}
 use Rattle.mm_label.specs.Facts.Fronts.{front_refl, front_antisym, not_front}
@@ -37,12 +38,6 @@ same_marks mask (x ∷ r) (y ∷ s) e a b =
     λ j. record { label = first j; mask = words j } ∷ later j
 
 -- ---- the marks of an answer, as `masks` gives them
-
--- r has each node on a path from the root to a match, in order, with its mask
-pub record AreMasks (root : Label) (matches r : List Mark) : Type 0 where
-  pub ordered : Ascends (labels r)
-  pub on_path : (x : Label) → Within x (labels r) ↔ IsOnPath root matches x
-  pub words : (m : Mark) → Within m r → m.mask ≡ mask_at m.label matches
 
 abbrev pub matches_at : List Word → Tree Named → List Mark
 matches_at query t = matches_of 1 query (open_nodes query t)

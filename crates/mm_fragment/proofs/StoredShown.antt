@@ -7,8 +7,8 @@ use Rattle.mm_label.specs.Facts.Members.{within_first}
 use Rattle.mm_match.specs.declared.mark.Mark.{Mark}
 use Rattle.mm_match.specs.Marks.{kept, survives}
 use Rattle.mm_tree.specs.Trees.{Trees, Tree, none, node, one, every, nodes, preorder}
-use Rattle.mm_tree.specs.Numbering.{Labelled, has_room}
-use Rattle.mm_tree.specs.Forests.{are_labelled, has_valid_kind, is_well_formed}
+use Rattle.mm_tree.specs.Numbering.{Labelled}
+use Rattle.mm_tree.specs.Forests.{is_well_formed}
 use Rattle.mm_tree.specs.Edits.{found}
 use Rattle.mm_tree.specs.Hits.{name_of}
 use Rattle.mm_tree.specs.Fragments.{Named, named_as}
@@ -22,36 +22,20 @@ use Rattle.mm_image.specs.Content.{name_in, piece}
 use Rattle.mm_image.specs.Image.{image}
 use Rattle.mm_image.specs.Keys.{chunk_key}
 use Rattle.mm_image.specs.Laws.{FirstPieceNames}
-use Rattle.mm_image.specs.Facts.Finding.{IsAt, at_found, same_key}
-use Rattle.mm_image.specs.Looking.{entry_at}
-use Rattle.mm_image.specs.Facts.Members.{chunk_in, node_is_valid}
+use Rattle.mm_image.specs.Naming.{stored_name}
+use Rattle.mm_image.specs.Facts.Naming.{named_there}
+use Rattle.mm_fragment.specs.Inside.Keeping.{AreMasks}
 use Rattle.mm_fragment.specs.Inside.Marked.{Rowed, marked}
 use Rattle.mm_fragment.specs.Inside.Owning.{Precedes, marked_words}
 use Rattle.mm_fragment.specs.Matching.{open_nodes, matches_of}
 use Rattle.mm_fragment.specs.Showing.{named_in, shown_at}
-use Rattle.mm_fragment.specs.Inside.Stored.{name_of_entry, stored_name, stored_shown}
+use Rattle.mm_fragment.specs.Inside.Stored.{stored_shown}
 use Rattle.mm_fragment.proofs.LinkForest.{found_is}
 use Rattle.mm_fragment.proofs.LinkFragment.{no_marks, named_in_forest, root_meets, shown_there}
-use Rattle.mm_fragment.proofs.LinkMasks.{AreMasks, matches_at, marked_tree, masks_are, of_coded, open_is}
+use Rattle.mm_fragment.proofs.LinkMasks.{matches_at, marked_tree, masks_are, of_coded, open_is}
 use Rattle.mm_fragment.proofs.LinkPaths.{Word}
 use Rattle.mm_fragment.proofs.MarkedOpen.{cleared, cleared_formed, cleared_thins, marked_is, words_in}
 use Rattle.mm_fragment.proofs.Owned.{Ascending, marks_are_own, matches_precede, within_kept}
-
--- ---- names
-
--- the name of a node of the forest
-named_there : FirstPieceNames → (m : Entries) (f : Trees Labelled) → IsTrue (is_well_formed f) → m ≡ image f → IsSorted m → (d : Labelled) → Within d (preorder f) → stored_name m d.label ≡ Some (name_of d.kind)
-named_there law m f w e s d i =
-    let key = chunk_key d.label 0 in
-    let there : Within (key, piece d.kind 0) m = subst (Within (key, piece d.kind 0)) (sym e) (chunk_in f d i) in
-    let a = and_parts (are_labelled [] None f) _ w in
-    let r = and_parts (every has_room f) _ a.1 in
-    let v = and_parts (every has_valid_kind f) _ r.1 in
-    by (entry_at m (index_of m key)) there (at_found m key s.rises) ∙ law d.kind (node_is_valid f v.0 d i)
-  where
-    by : (o : Option Entry) → Within (chunk_key d.label 0, piece d.kind 0) m → IsAt m (chunk_key d.label 0) o → name_of_entry o ≡ name_in (piece d.kind 0)
-    by None t h = absurd (h (chunk_key d.label 0, piece d.kind 0) t refl)
-    by (Some c) t h = ap (λ (z : Entry). name_in z.1) (same_key m c (chunk_key d.label 0, piece d.kind 0) s.rises h.0 t h.1)
 
 -- ---- the nodes that are kept are open
 

@@ -13,12 +13,13 @@ ghost use Rattle.mm_fragment.specs.Showing.{named_in};
 
 use crate::children::Root;
 use crate::gathering::matches;
+use crate::pruning::kept_nodes;
 use crate::rebuilding::rebuild;
 use crate::showing::{show, show_all};
 use mm_host::Fault;
 use mm_label::Label;
 use mm_lists::Lists;
-use mm_match::{Mark, masks, prune};
+use mm_match::Mark;
 use mm_steps::Steps;
 use mm_tree::{Forest, Fragment};
 use mm_words::{Query, Word};
@@ -36,8 +37,7 @@ fn assembled(
     ensures { (t : Tree Labelled) → IsTrue (is_well_formed (forest_of forest.now)) → found root.now (forest_of forest.now) ≡ Some t → matches.now ≡ matches_of 1 words.now (open_nodes words.now (named_in t))
         → IfOk result (λ r. fragment_tree r ≡ fragment words.now (named_in t)) }
 {
-    let marked = masks(alloc, root, matches)?;
-    let kept = prune(alloc, marked.as_slice())?;
+    let kept = kept_nodes(alloc, root, matches)?;
     let shown = show_all(alloc, forest, kept, words)?;
     match rebuild(alloc, shown)? {
         Some(fragment) => Ok(fragment),
@@ -56,8 +56,8 @@ fn assembled(
 /// # Errors
 ///
 /// `Memory` where there was none, and else what the lists refuse: `DiskFault` only where their count of
-/// faults rose in this call, `Spent` only where they were spent before, `Damaged` never where they stand
-/// for a forest.
+/// faults rose in this call, `Spent` only where they were spent before, `Damaged` only with what is damaged
+/// there, and never where they stand for a forest.
 pub fn fragment<X: Lists, L: Ledger>(
     alloc: Global,
     forest: &Forest,
@@ -69,7 +69,7 @@ pub fn fragment<X: Lists, L: Ledger>(
 ) -> Result<Fragment, Fault>
     ensures value { (t : Tree Labelled) → X.stands lists.old (forest_of forest.now) → found root.now (forest_of forest.now) ≡ Some t → AllPairs IsBefore answers.now → Tells answers.now query.now (named_in t)
         → IfOk result (λ r. fragment_tree r ≡ fragment query.now (named_in t)) }
-    ensures leaves { Leaves X.stands X.same_ground X.fault_count X.spent lists.old lists.new result }
+    ensures leaves { Leaves X.stands X.same_ground X.blames X.fault_count X.spent lists.old lists.new result }
     ensures cost { (t : Tree Labelled) → X.stands lists.old (forest_of forest.now) → found root.now (forest_of forest.now) ≡ Some t → AllPairs IsBefore answers.now → Tells answers.now query.now (named_in t)
         → steps.new ≤ steps.old + cost_of query.now (named_in t) }
 {

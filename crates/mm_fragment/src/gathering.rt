@@ -36,7 +36,7 @@ fn pass<X: Lists, L: Ledger>(
     ensures value { (f : Trees Labelled) (t : Tree Labelled) (query : List (List ℕ)) (done : List (List ℤ)) (passed : ℕ) → X.stands lists.old f → IsAsked f root.now.label.now t root.now.answers.now query
         → WalkedBelow f root.now.label.now t query word.now done passed (Some mark.label) → Front root.now.label.now mark.label
         → IfOk result (Passes f root.now.label.now t query word.now mark.mask done passed marks.old marks.new) }
-    ensures leaves { Leaves X.stands X.same_ground X.fault_count X.spent lists.old lists.new result }
+    ensures leaves { Leaves X.stands X.same_ground X.blames X.fault_count X.spent lists.old lists.new result }
     ensures ticks { OnOk result (steps.new ≡ steps.old + 1) }
     ensures most { steps.new ≤ steps.old + 1 }
 {
@@ -60,7 +60,7 @@ fn gather<X: Lists, L: Ledger>(
 ) -> Result<(), Fault>
     ensures value { (f : Trees Labelled) (t : Tree Labelled) (query : List (List ℕ)) → X.stands lists.old f → IsAsked f root.now.label.now t root.now.answers.now query
         → OnOk result (marks.new ≡ marks.old ++ marks_of bit (open_holders word.now query (named_in t))) }
-    ensures leaves { Leaves X.stands X.same_ground X.fault_count X.spent lists.old lists.new result }
+    ensures leaves { Leaves X.stands X.same_ground X.blames X.fault_count X.spent lists.old lists.new result }
     ensures cost { (f : Trees Labelled) (t : Tree Labelled) (query : List (List ℕ)) → X.stands lists.old f → IsAsked f root.now.label.now t root.now.answers.now query
         → steps.new ≤ steps.old + (holders word.now (open_nodes query (named_in t)) + (full_count query (named_in t).1 + 1)) }
 {
@@ -95,7 +95,7 @@ pub fn matches<X: Lists, L: Ledger>(
     requires { length words.now ≤ 32 }
     ensures value { (f : Trees Labelled) (t : Tree Labelled) → X.stands lists.old f → IsAsked f root.now.label.now t root.now.answers.now words.now
         → IfOk result (λ r. r ≡ matches_of 1 words.now (open_nodes words.now (named_in t))) }
-    ensures leaves { Leaves X.stands X.same_ground X.fault_count X.spent lists.old lists.new result }
+    ensures leaves { Leaves X.stands X.same_ground X.blames X.fault_count X.spent lists.old lists.new result }
     ensures cost { (f : Trees Labelled) (t : Tree Labelled) → X.stands lists.old f → IsAsked f root.now.label.now t root.now.answers.now words.now
         → steps.new ≤ steps.old + cost_of words.now (named_in t) }
 {

@@ -9,6 +9,7 @@ mod children;
 mod gathering;
 pub mod laws;
 mod owning;
+mod pruning;
 mod rebuilding;
 mod showing;
 mod stored;

@@ -5,9 +5,10 @@ ghost use Rattle.mm_fragment.specs.Bound.{cost_of};
 ghost use Rattle.mm_fragment.specs.Inside.Gathering.{IsAsked};
 ghost use Rattle.mm_fragment.specs.Matching.{Tells, matches_of, open_nodes};
 ghost use Rattle.mm_fragment.specs.Showing.{named_in};
+ghost use Rattle.mm_fragment.specs.Stored.{IsDamageBelow};
 ghost use Rattle.mm_image.specs.Ground.{HoldsImage, SameGround};
 ghost use Rattle.mm_label.specs.Label.{IsBefore};
-ghost use Rattle.mm_lists.specs.Causes.{Caused, IsSound};
+ghost use Rattle.mm_lists.specs.Causes.{BlamesOnly, Caused, IsSound};
 ghost use Rattle.mm_tree.specs.Edits.{found};
 ghost use Rattle.mm_tree.specs.Fragments.{fragment, fragment_tree};
 ghost use Rattle.mm_tree.specs.Numbering.{Labelled};
@@ -15,6 +16,7 @@ ghost use Rattle.mm_tree.specs.Trees.{Tree, Trees, nodes, one};
 
 use crate::children::Root;
 use crate::gathering::matches;
+use crate::pruning::kept_nodes;
 use crate::rebuilding::rebuild;
 use crate::stored::{show, show_all};
 use mm_host::Fault;
@@ -23,7 +25,7 @@ use mm_keeper::Keeper;
 use mm_keeper_lists::KeeperLists;
 use mm_label::Label;
 use mm_list::Items;
-use mm_match::{Mark, masks, prune};
+use mm_match::Mark;
 use mm_steps::Steps;
 use mm_tree::Fragment;
 use mm_words::{Query, Word};
@@ -42,6 +44,7 @@ fn stored_matches<K: Keeper, L: Ledger>(
     requires words { length words.now ≤ 32 }
     ensures value { (f : Trees Labelled) (t : Tree Labelled) → HoldsImage K.has_maps K.seen keeper.old f → IsAsked f root.now.label.now t root.now.answers.now words.now
         → IfOk result (λ r. r ≡ matches_of 1 words.now (open_nodes words.now (named_in t))) }
+    ensures blame { K.has_maps keeper.old → IfErr result (BlamesOnly (IsDamageBelow root.now.label.now (K.seen keeper.old).now)) }
     ensures undamaged { (f : Trees Labelled) → HoldsImage K.has_maps K.seen keeper.old f → IfErr result IsSound }
     ensures sound { K.is_sound keeper.new }
     ensures ground { SameGround K.over K.has_maps K.tells K.seen K.written K.changes K.moment K.left_since keeper.old keeper.new }
@@ -66,6 +69,7 @@ fn stored_assembled<K: Keeper, L: Ledger>(
     requires words { length words.now ≤ 32 }
     ensures value { (f : Trees Labelled) (t : Tree Labelled) → HoldsImage K.has_maps K.seen keeper.old f → found root.now f ≡ Some t → matches.now ≡ matches_of 1 words.now (open_nodes words.now (named_in t))
         → IfOk result (λ r. fragment_tree r ≡ fragment words.now (named_in t)) }
+    ensures blame { K.has_maps keeper.old → IfErr result (BlamesOnly (IsDamageBelow root.now (K.seen keeper.old).now)) }
     ensures undamaged { (f : Trees Labelled) (t : Tree Labelled) → HoldsImage K.has_maps K.seen keeper.old f → found root.now f ≡ Some t → matches.now ≡ matches_of 1 words.now (open_nodes words.now (named_in t))
         → IfErr result IsSound }
     ensures sound { K.is_sound keeper.new }
@@ -75,8 +79,7 @@ fn stored_assembled<K: Keeper, L: Ledger>(
         → steps.new ≤ steps.old + nodes (one (fragment words.now (named_in t))) }
 {
     values_tell();
-    let marked = masks(alloc, root, matches)?;
-    let kept = prune(alloc, marked.as_slice())?;
+    let kept = kept_nodes(alloc, root, matches)?;
     let shown = show_all(alloc, keeper, kept, words, matches, steps)?;
     match rebuild(alloc, shown)? {
         Some(fragment) => Ok(fragment),
@@ -93,8 +96,9 @@ fn stored_assembled<K: Keeper, L: Ledger>(
 /// # Errors
 ///
 /// `Memory` where there was none, and else what the keeper refuses: `DiskFault` only where its count of faults rose
-/// in this call, `Spent` only where it was spent before. `Damaged` with the key that can't be read, and never where the
-/// map is the image of a forest in which a node has the root's label, and the answers are those of the search.
+/// in this call, `Spent` only where it was spent before. `Damaged` only with the key of an entry of a keyword list that
+/// can't be read, or of the first piece of a node at or below the root that has no name there; never where the map is
+/// the image of a forest in which a node has the root's label, and the answers are those of the search.
 pub fn stored_fragment<K: Keeper, L: Ledger>(
     alloc: Global,
     root: &Label,
@@ -106,6 +110,8 @@ pub fn stored_fragment<K: Keeper, L: Ledger>(
     requires { K.is_sound keeper.old }
     ensures value { (f : Trees Labelled) (t : Tree Labelled) → HoldsImage K.has_maps K.seen keeper.old f → found root.now f ≡ Some t → AllPairs IsBefore answers.now → Tells answers.now query.now (named_in t)
         → IfOk result (λ r. fragment_tree r ≡ fragment query.now (named_in t)) }
+    // The key that damage tells is that of an entry that can't be read, over any map.
+    ensures blame { K.has_maps keeper.old → IfErr result (BlamesOnly (IsDamageBelow root.now (K.seen keeper.old).now)) }
     ensures undamaged { (f : Trees Labelled) (t : Tree Labelled) → HoldsImage K.has_maps K.seen keeper.old f → found root.now f ≡ Some t → AllPairs IsBefore answers.now → Tells answers.now query.now (named_in t)
         → IfErr result IsSound }
     ensures sound { K.is_sound keeper.new }

@@ -1,19 +1,15 @@
 -- The chunks of a node are its content cut into pieces and numbered.
-use Rattle.std.proofs.Common.{◌≡◌, ℕ, ℤ, zero, suc, ◌+◌, ◌/◌, ◌<◌, ◌≤◌, Bool, true, false, ◌&&◌, List, [], ◌∷◌, ◌++◌, refl, ap, sym, subst, ◌∙◌, length, get_or, map, arith, append_assoc}
-use Rattle.std.specs.Prelude.{flat_map, sum_by, nat_le}
-use Rattle.std.specs.List.{list_all, range_with_len}
+use Rattle.std.proofs.Common.{◌≡◌, ℕ, zero, suc, ◌<◌, ◌≤◌, Bool, true, false, ◌&&◌, List, [], ◌∷◌, ◌++◌, refl, ap, sym, subst, ◌∙◌, length, get_or, arith, append_assoc}
+use Rattle.std.specs.List.{list_all}
 use Rattle.std.specs.Str.{chars, encode_utf8_all, is_utf8}
 use Rattle.std.proofs.lemmas.Bool.{and_parts, ltb-true}
 use Rattle.std.proofs.lemmas.Bool.Decides.{nat_tests}
 use Rattle.std.proofs.lemmas.Grind.{flat_map-append}
-use Rattle.std.proofs.lemmas.List.{length-append}
-use Rattle.std.proofs.lemmas.List.Concat.{length-flat_map}
 use Rattle.std.proofs.lemmas.Str.{encodes-chars, IsUtf8-from_is_utf8}
-use Rattle.byteorder.specs.Endian.{big_bytes}
 use Rattle.mm_keeper.specs.Entries.{Entries}
 use Rattle.mm_tree.specs.declared.plain.Attribute.{Attribute}
 use Rattle.mm_tree.specs.declared.plain.Kind.{Kind}
-use Rattle.mm_tree.specs.declared.plain.Kind.TheVariants.{Element, Words}
+use Rattle.mm_tree.specs.declared.plain.Kind.TheVariants.{Element}
 use Rattle.mm_tree.specs.declared.node.Node.{Node}
 use Rattle.mm_tree.specs.declared.node.Node.TheViews.{out-Node}
 use Rattle.mm_tree.specs.Facts.Walks.{labelled, node_of_out}
@@ -21,11 +17,8 @@ use Rattle.mm_tree.specs.Characters.{is_name}
 use Rattle.mm_tree.specs.Forests.{has_valid_kind}
 use Rattle.mm_tree.specs.Numbering.{Labelled, forest_of, node_of}
 use Rattle.mm_tree.specs.Trees.{Trees, Tree, none, node, one, every, has_some, preorder}
-use Rattle.mm_tree.specs.Validity.{attribute_size, content_size, has_valid_parts, is_node_name, is_valid_attribute, is_valid_kind, piece_count}
-use Rattle.mm_image.specs.Content.{attribute_bytes, content, piece, sized}
+use Rattle.mm_tree.specs.Validity.{has_valid_parts, is_node_name, is_valid_attribute, is_valid_kind}
 use Rattle.mm_image.specs.Image.{chunks, chunks_of}
-use Rattle.mm_image.specs.Inside.Cutting.{numbered, pieces_of}
-use Rattle.mm_image.specs.Keys.{chunk_key}
 
 -- ---- what valid parts bound
 
@@ -60,49 +53,6 @@ few_attributes name attributes h = ltb-true (length attributes) 4294967296 (and_
 pub valid_parts : (kind : Kind) → is_valid_kind kind ≡ true → has_valid_parts kind ≡ true
 unfolding is_valid_kind
 valid_parts kind h = (and_parts (has_valid_parts kind) _ h).0
-
-pub few_pieces : (kind : Kind) → is_valid_kind kind ≡ true → nat_le (piece_count kind) 4294967296 ≡ true
-unfolding is_valid_kind
-few_pieces kind h = (and_parts (has_valid_parts kind) _ h).1
-
--- ---- the size of a content
-
-attribute_sized : (a : Attribute) → length (attribute_bytes a) ≡ attribute_size a
-attribute_sized a = let t = length-append a.name (sized 4 a.value) in omega arith
-
-content_sized : (kind : Kind) → content_size kind ≡ length (content kind)
-content_sized (Element name attributes) =
-    let sum : sum_by (λ x. length (attribute_bytes x)) attributes ≡ sum_by attribute_size attributes = ap (λ (f : Attribute → ℕ). sum_by f attributes) (λ i x. attribute_sized x i) in
-    let all : length (flat_map attribute_bytes attributes) ≡ sum_by attribute_size attributes = length-flat_map attribute_bytes attributes ∙ sum in
-    let t = length-append name (big_bytes 4 (length attributes) ++ flat_map attribute_bytes attributes) in
-    omega arith
-content_sized (Words text) = omega arith
-
-pub count_is : (kind : Kind) → (length (content kind) + 999) / 1000 ≡ piece_count kind
-count_is kind = ap (λ (n : ℕ). (n + 999) / 1000) (sym (content_sized kind))
-
-pub length_mapped : {X : Type 0} (f : ℕ → X) (n a : ℕ) → length (map f (range_with_len a n)) ≡ n
-length_mapped f zero a = refl
-length_mapped f (suc n) a = ap suc (length_mapped f n (a + 1))
-
-pub pieces_few : (kind : Kind) → is_valid_kind kind ≡ true → length (pieces_of (content kind)) ≤ 4294967296
-pieces_few kind h =
-    let t = few_pieces kind h in
-    let u = length_mapped (piece kind) ((length (content kind) + 999) / 1000) 0 in
-    let v = count_is kind in
-    let w : piece_count kind ≤ 4294967296 = grind (arith, nat_tests, t) in
-    omega (arith, u, v, w)
-
--- ---- numbers
-
-numbered_range : (label : List ℤ) (f : ℕ → List ℕ) (n a : ℕ) → numbered label a (map f (range_with_len a n)) ≡ map (λ i. (chunk_key label i, f i)) (range_with_len a n)
-numbered_range label f zero a = refl
-numbered_range label f (suc n) a = ap (λ (z : Entries). (chunk_key label a, f a) ∷ z) (numbered_range label f n (a + 1))
-
-pub chunks_are : (label : List ℤ) (kind : Kind) → numbered label 0 (pieces_of (content kind)) ≡ chunks_of (record { label = label; kind = kind })
-chunks_are label kind =
-    numbered_range label (piece kind) ((length (content kind) + 999) / 1000) 0
-    ∙ ap (λ (n : ℕ). map (λ i. (chunk_key label i, piece kind i)) (range_with_len 0 n)) (count_is kind)
 
 -- ---- one node of a list after the other
 

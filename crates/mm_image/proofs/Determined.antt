@@ -1,5 +1,5 @@
 -- The entries of a well-formed forest tell the forest.
-use Rattle.std.proofs.Common.{inl, inr, ◌≡◌, ℕ, ℤ, zero, suc, ◌+◌, ◌*◌, ◌<◌, ◌≤◌, ◌/◌, true, IsTrue, List, [], ◌∷◌, ◌++◌, refl, ap, sym, subst, ◌∙◌, map, length, get_or, take, drop, arith}
+use Rattle.std.proofs.Common.{inl, inr, ◌≡◌, ℕ, ℤ, zero, suc, ◌+◌, ◌<◌, ◌≤◌, true, IsTrue, List, [], ◌∷◌, ◌++◌, refl, ap, sym, subst, ◌∙◌, map, length, get_or, drop, arith}
 use Rattle.std.specs.Prelude.{flat_map}
 use Rattle.std.specs.List.{list_all, range_with_len}
 use Rattle.std.proofs.lemmas.Bool.{and_parts}
@@ -22,14 +22,14 @@ use Rattle.mm_tree.specs.Numbering.{Labelled}
 use Rattle.mm_tree.specs.Search.{worded}
 use Rattle.mm_tree.specs.Trees.{Trees, none, node, preorder}
 use Rattle.mm_tree.specs.Validity.{content_size, is_node_name, is_valid_attribute, is_valid_kind, piece_count}
-use Rattle.mm_image.specs.Content.{attribute_bytes, content, piece, piece_limit, sized}
+use Rattle.mm_image.specs.Content.{attribute_bytes, content, piece, sized}
 use Rattle.mm_image.specs.Image.{chunks, chunks_of, counts, occurrences}
-use Rattle.mm_image.specs.Inside.Cutting.{join, pieces_of}
+use Rattle.mm_image.specs.Inside.Cutting.{join}
 use Rattle.mm_image.specs.Keys.{chunk_key}
 use Rattle.mm_image.specs.Laws.{ImagesTellForests}
-use Rattle.mm_image.proofs.ChunkFacts.{count_is, name_fits, valid_attributes, valid_name, valid_parts, value_fits}
+use Rattle.mm_image.specs.Facts.Pieces.{count_is, joined}
+use Rattle.mm_image.proofs.ChunkFacts.{name_fits, valid_attributes, valid_name, valid_parts, value_fits}
 use Rattle.mm_image.proofs.KeyFacts.{same_front}
-use Rattle.mm_image.proofs.PieceFacts.{take_all}
 use Rattle.mm_image.proofs.Rising.{chunks_headed, counts_headed, Headed, nodes_of, occurrences_headed, within_range}
 
 -- two lists that are split by what their first parts have and their ends haven't
@@ -101,36 +101,6 @@ same_content (Element n cs) (Element m bs) h g e =
     let rest : r ≡ s = ap (drop 4) named.1 in
     let all = same_attributes cs bs (valid_attributes n cs v) (valid_attributes m bs w) rest in
     λ i. Element (named.0 i) (all i)
-
--- ---- the pieces together
-
-drop_none : (k : ℕ) → drop {A = ℕ} k [] ≡ []
-drop_none zero = refl
-drop_none (suc k) = refl
-
-drop_drop : (m n : ℕ) (xs : List ℕ) → drop m (drop n xs) ≡ drop (n + m) xs
-drop_drop m zero xs = ap (λ (k : ℕ). drop k xs) (omega arith)
-drop_drop m (suc n) [] = drop_none m ∙ sym (drop_none (suc n + m))
-drop_drop m (suc n) (x ∷ xs) = let e : suc n + m ≡ suc (n + m) = omega arith in drop_drop m n xs ∙ sym (ap (λ (k : ℕ). drop k (x ∷ xs)) e)
-
-take_more_of : (m n : ℕ) (xs : List ℕ) → take m xs ++ take n (drop m xs) ≡ take (m + n) xs
-take_more_of zero n xs = ap (λ (k : ℕ). take k xs) (omega arith)
-take_more_of (suc m) zero [] = let e : suc m + 0 ≡ suc m = omega arith in sym (ap (λ (k : ℕ). take k []) e)
-take_more_of (suc m) (suc n) [] = let e : suc m + suc n ≡ suc (m + suc n) = omega arith in sym (ap (λ (k : ℕ). take k []) e)
-take_more_of (suc m) n (x ∷ xs) = let e : suc m + n ≡ suc (m + n) = omega arith in ap (λ (z : List ℕ). x ∷ z) (take_more_of m n xs) ∙ sym (ap (λ (k : ℕ). take k (x ∷ xs)) e)
-
-joined_from : (b : List ℕ) (n a : ℕ) → join (map (λ i. take piece_limit (drop (piece_limit * i) b)) (range_with_len a n)) ≡ take (piece_limit * n) (drop (piece_limit * a) b)
-joined_from b zero a = refl
-joined_from b (suc n) a =
-    let here = drop (piece_limit * a) b in
-    let p : piece_limit * (a + 1) ≡ piece_limit * a + piece_limit = omega arith in
-    let q : piece_limit + piece_limit * n ≡ piece_limit * suc n = omega arith in
-    ap (λ (z : List ℕ). take piece_limit here ++ z) (joined_from b n (a + 1))
-    ∙ (ap (λ (z : List ℕ). take piece_limit here ++ take (piece_limit * n) z) (ap (λ (k : ℕ). drop k b) p ∙ sym (drop_drop piece_limit (piece_limit * a) b))
-    ∙ (take_more_of piece_limit (piece_limit * n) here ∙ ap (λ (k : ℕ). take k here) q))
-
-pub joined : (b : List ℕ) → join (pieces_of b) ≡ b
-joined b = joined_from b ((length b + 999) / 1000) 0 ∙ take_all (piece_limit * ((length b + 999) / 1000)) b (omega arith)
 
 values_are : (label : List ℤ) (f : ℕ → List ℕ) (n a : ℕ) → map (λ (e : Entry). e.1) (map (λ i. (chunk_key label i, f i)) (range_with_len a n)) ≡ map f (range_with_len a n)
 values_are label f zero a = refl

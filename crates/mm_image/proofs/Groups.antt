@@ -1,9 +1,8 @@
 -- What stands before a chunk among the chunks of nodes, and that these tell the nodes.
-use Rattle.std.proofs.Common.{◌≡◌, ℕ, ℤ, zero, suc, ◌+◌, ◌*◌, ◌<◌, ◌≤◌, ◌/◌, Bool, true, false, not, List, [], ◌∷◌, ◌++◌, refl, ap, sym, subst, ◌∙◌, Option, Some, None, map, length, take, drop, append_assoc, append-nil, arith}
+use Rattle.std.proofs.Common.{◌≡◌, ℕ, ℤ, zero, suc, ◌+◌, ◌<◌, ◌≤◌, Bool, true, false, not, List, [], ◌∷◌, ◌++◌, refl, ap, sym, subst, ◌∙◌, Option, Some, None, map, length, drop, append_assoc, append-nil, arith}
 use Rattle.std.specs.Prelude.{flat_map}
-use Rattle.std.specs.List.{range_with_len}
 use Rattle.std.proofs.lemmas.Grind.{flat_map-append}
-use Rattle.std.proofs.lemmas.List.{length-append, length-take, length-drop}
+use Rattle.std.proofs.lemmas.List.{length-append}
 use Rattle.mm_tree.specs.declared.plain.Kind.{Kind}
 use Rattle.mm_tree.specs.declared.plain.Kind.TheVariants.{Element, Words}
 use Rattle.byteorder.specs.Endian.{big_bytes}
@@ -19,10 +18,12 @@ use Rattle.mm_image.specs.Keys.{chunk_key, StandsFor}
 use Rattle.mm_image.specs.Inside.Cutting.{join, numbered, pieces_of}
 use Rattle.mm_image.specs.Inside.Gathered.{AreGroups, BeginNone, CanBeStored, IsChunk, IsCut, IsGroup, as_group, gathered, group_chunks}
 use Rattle.mm_image.proofs.Apart.{same_number}
-use Rattle.mm_image.proofs.ChunkFacts.{chunks_are, pieces_few}
-use Rattle.mm_image.proofs.Determined.{OneLabel, first_key, joined, same_content}
+use Rattle.mm_image.specs.Facts.Pieces.{chunks_are, pieces_few}
+use Rattle.mm_image.specs.Facts.Pieces.{joined}
+use Rattle.mm_image.proofs.Determined.{OneLabel, first_key, same_content}
 use Rattle.mm_image.proofs.PieceFacts.{cut_with_last, one_more}
 use Rattle.mm_image.proofs.KeyFacts.{same_front}
+use Rattle.mm_image.specs.Facts.Pieces.{cut_is}
 
 -- ---- keys
 
@@ -75,22 +76,6 @@ linked_groups before (g ∷ gs) a =
     linked_joined before (group_chunks g) (gathered gs)
     (linked_pieces before g.label 0 g.pieces a.0.label a.0.cut (omega (arith, a.0.few)) (λ i e. absurd (omega arith)))
     (linked_groups (last_of before (group_chunks g)) gs a.1)
-
--- ---- bytes are cut
-
-cut_range : (b : List ℕ) (n a : ℕ) → 1000 * (a + n) < length b + 1000 → length b ≤ 1000 * (a + n) → 1 ≤ n → IsCut (map (λ i. take piece_limit (drop (piece_limit * i) b)) (range_with_len a n))
-cut_range b zero a l h p = absurd (omega arith)
-cut_range b (suc zero) a l h p =
-    let t = length-take 1000 (drop (1000 * a) b) in
-    let u = length-drop (1000 * a) b in
-    (omega arith, omega arith)
-cut_range b (suc (suc n)) a l h p =
-    let t = length-take 1000 (drop (1000 * a) b) in
-    let u = length-drop (1000 * a) b in
-    (omega arith, cut_range b (suc n) (a + 1) (omega arith) (omega arith) (omega arith))
-
-pub cut_is : (b : List ℕ) → 1 ≤ length b → IsCut (pieces_of b)
-cut_is b s = cut_range b ((length b + 999) / 1000) 0 (omega arith) (omega arith) (omega arith)
 
 -- and pieces that are cut so are those of their bytes
 pub cut_again : (ps : List (List ℕ)) → IsCut ps → pieces_of (join ps) ≡ ps

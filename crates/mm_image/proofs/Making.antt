@@ -13,8 +13,9 @@ use Rattle.mm_image.specs.Content.{content}
 use Rattle.mm_image.specs.Inside.Getting.{IsContent, IsKindOf}
 use Rattle.mm_image.specs.Inside.Cutting.{join, pieces_of}
 use Rattle.mm_image.specs.Inside.Gathered.{AreGroups, CanBeStored, IsGroup, Tells, as_group}
-use Rattle.mm_image.proofs.ChunkFacts.{count_is, length_mapped, valid_parts}
-use Rattle.mm_image.proofs.Determined.{joined}
+use Rattle.mm_image.specs.Facts.Pieces.{count_is, length_mapped}
+use Rattle.mm_image.proofs.ChunkFacts.{valid_parts}
+use Rattle.mm_image.specs.Facts.Pieces.{joined}
 use Rattle.mm_image.proofs.Groups.{cut_again}
 
 -- the groups that were looked at, and those that are left

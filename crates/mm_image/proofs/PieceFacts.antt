@@ -4,6 +4,7 @@ use Rattle.std.proofs.lemmas.List.{append-nil, append_assoc, length-append}
 use Rattle.std.specs.List.{range_with_len}
 use Rattle.mm_image.specs.Content.{piece_limit}
 use Rattle.mm_image.specs.Inside.Cutting.{AreFull, join, pieces_of}
+use Rattle.mm_image.specs.Facts.Pieces.{take_all}
 
 pub join_push : (ps : List (List ℕ)) (p : List ℕ) → join (ps ++ p ∷ []) ≡ join ps ++ p
 join_push [] p = append-nil p
@@ -22,12 +23,6 @@ drop_behind (x ∷ p) r n = let e : length (x ∷ p) + n ≡ suc (length p + n) 
 pub take_front : (p r : List ℕ) → take (length p) (p ++ r) ≡ p
 take_front [] r = refl
 take_front (x ∷ p) r = ap (λ (z : List ℕ). x ∷ z) (take_front p r)
-
-pub take_all : (n : ℕ) (xs : List ℕ) → length xs ≤ n → take n xs ≡ xs
-take_all zero [] l = refl
-take_all zero (x ∷ xs) l = absurd (omega arith)
-take_all (suc n) [] l = refl
-take_all (suc n) (x ∷ xs) l = ap (λ (z : List ℕ). x ∷ z) (take_all n xs (omega arith))
 
 shifted : {X : Type 0} (f g : ℕ → X) → ((i : ℕ) → f (i + 1) ≡ g i) → (n a : ℕ) → map f (range_with_len (a + 1) n) ≡ map g (range_with_len a n)
 shifted f g h zero a = refl

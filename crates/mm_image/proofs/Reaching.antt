@@ -34,6 +34,7 @@ use Rattle.mm_tree.specs.Numbering.{Labelled, node_of}
 use Rattle.mm_tree.specs.Search.{worded}
 use Rattle.mm_tree.specs.Trees.{Tree, Trees, none, node, one, preorder}
 use Rattle.mm_image.specs.Facts.LabelOrder.{Ancestry, begins as spelled}
+use Rattle.mm_image.specs.Facts.Naming.{found_stands}
 use Rattle.mm_image.specs.Facts.Upto.{UpTo, below_upto, between}
 use Rattle.mm_image.specs.Image.{chunks, chunks_of, counts, image, occurrences}
 use Rattle.mm_image.specs.Content.{piece}
@@ -47,7 +48,8 @@ use Rattle.mm_image.proofs.Determined.{OneLabel, chunk_of, first_chunk, some_pie
 use Rattle.mm_image.proofs.KeyFacts.{same_front}
 use Rattle.mm_image.proofs.Groups.{nodes_gathered, same_groups, same_nodes, stored_groups}
 use Rattle.mm_image.proofs.Rising.{counts_headed, occurrences_headed}
-use Rattle.mm_image.proofs.Standing.{is_standing, node_parts, rebuilt_tree, stands, stands_in, stored_tree}
+use Rattle.mm_image.specs.Facts.Standing.{is_standing, stands, stands_in}
+use Rattle.mm_image.proofs.Standing.{node_parts, rebuilt_tree, stored_tree}
 use Rattle.mm_image.proofs.Walking.{begins_not, begins_of}
 
 -- ---- entries that are sought by a test
@@ -254,18 +256,6 @@ image_run ancestry f t w s =
     ]
 
 -- ---- the node with a label
-
-pub found_stands : (x : List ℤ) (f : Trees Labelled) (t : Tree Labelled) → found x f ≡ Some t → Stands t.0 t.1 f × (t.0.label ≡ x)
-found_stands x none t e = absurd cc
-found_stands x (node d inner rest) t e = by (has_label x d) refl (has_node x inner) e (found_stands x inner t) (found_stands x rest t)
-  where
-    by : (a : Bool) → has_label x d ≡ a → (b : Bool) → cond a (Some (d, inner)) (cond b (found x inner) (found x rest)) ≡ Some t → (found x inner ≡ Some t → Stands t.0 t.1 inner × (t.0.label ≡ x)) → (found x rest ≡ Some t → Stands t.0 t.1 rest × (t.0.label ≡ x))
-        → Stands t.0 t.1 (node d inner rest) × (t.0.label ≡ x)
-    by true h b e f g =
-        let q : ◌≡◌ {A = Tree Labelled} (d, inner) t = cc in
-        subst (λ (z : Tree Labelled). Stands z.0 z.1 (node d inner rest) × (z.0.label ≡ x)) q (inl (refl, refl), same_label d.label x h)
-    by false h true e f g = let r = f e in (inr (inl r.0), r.1)
-    by false h false e f g = let r = g e in (inr (inr r.0), r.1)
 
 some_node : (x : List ℤ) (f : Trees Labelled) (p : Labelled) → Within p (preorder f) → p.label ≡ x → has_node x f ≡ true
 some_node x none p w e = absurd w

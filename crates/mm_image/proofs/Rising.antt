@@ -31,7 +31,7 @@ use Rattle.mm_image.specs.Facts.Members.{node_is_valid, listed_is, own_label, ow
 use Rattle.mm_image.specs.Image.{chunks, chunks_of, count_of, counts, entries_of, image, occurrences, occurrences_of, words}
 use Rattle.mm_image.specs.Keys.{chunk_key, occurrence_key}
 use Rattle.mm_image.specs.Laws.{ImagesRise}
-use Rattle.mm_image.proofs.ChunkFacts.{few_pieces}
+use Rattle.mm_image.specs.Facts.Pieces.{few_pieces}
 use Rattle.mm_image.specs.Facts.Keys.{no_zero}
 use Rattle.mm_image.specs.Facts.LabelOrder.{Ancestry, ByteOrder}
 use Rattle.mm_image.proofs.KeyOrder.{chunk_less, chunk_order, less_is, occurrence_order, word_less}

@@ -25,15 +25,12 @@ use Rattle.mm_tree.specs.Trees.{Trees, Tree, none, node, every, has_some, preord
 use Rattle.mm_image.specs.declared.rebuilding.Bare.{Bare}
 use Rattle.mm_image.specs.Inside.Placing.{comes_after, fits_place}
 use Rattle.mm_image.specs.Inside.Rebuilding.{bare, bared, count_below}
+use Rattle.mm_label.specs.Facts.Levels.{level_joined}
 
 first_is : (n : Node) (ns : List Node) → forest_of (n ∷ ns) ≡ node (labelled n) (forest_of (out-Node n).children) (forest_of ns)
 first_is n ns = ap (λ (t : Tree Labelled). node t.0 t.1 (forest_of ns)) (node_of_out n)
 
 -- ---- one segment more
-
-pub level_joined : (y s : List ℤ) → level (y ++ s) ≡ level y + level s
-level_joined [] s = omega arith
-level_joined (c ∷ y) s = let t = level-cons c (y ++ s) in let u = level-cons c y in let v = level_joined y s in omega arith
 
 no_odd : (c : ℤ) (s : List ℤ) → last_odd (is_odd c) s ≡ true → level s ≡ 0 → (is_odd c ≡ true) × (is_empty s ≡ true)
 no_odd c [] e f = (e, refl)

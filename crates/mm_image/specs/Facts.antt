@@ -5,3 +5,6 @@ pub mod Upto
 pub mod Finding
 pub mod LabelOrder
 pub mod Grounds
+pub mod Naming
+pub mod Pieces
+pub mod Standing

@@ -1,5 +1,5 @@
 -- What keys, values and images keep, as statements that the laws prove.
-use Rattle.std.specs.Prelude.{ℕ, ℤ, ◌<◌, ◌^◌, ◌≡◌, List, length, Some, IsTrue}
+use Rattle.std.specs.Prelude.{ℕ, ℤ, ◌<◌, ◌^◌, ◌≡◌, true, List, length, get_or, Some, IsTrue}
 use Rattle.std.specs.Cmp.Lexicographic.{slice_cmp}
 use Rattle.std.specs.Ordering.{int_cmp, nat_cmp, ordering_then}
 use Rattle.mm_keeper.specs.Entries.{IsSorted}
@@ -11,9 +11,10 @@ use Rattle.mm_tree.specs.Hits.{name_of}
 use Rattle.mm_tree.specs.Numbering.{Labelled}
 use Rattle.mm_tree.specs.Search.{Worded, list_of}
 use Rattle.mm_tree.specs.Trees.{Trees}
-use Rattle.mm_tree.specs.Validity.{is_valid_kind}
+use Rattle.mm_tree.specs.Validity.{has_valid_parts, is_valid_kind}
 use Rattle.mm_image.specs.declared.parsed.Parsed.{Parsed}
-use Rattle.mm_image.specs.Content.{count_in, name_in, piece}
+use Rattle.mm_image.specs.Content.{content, count_in, name_in, piece}
+use Rattle.mm_image.specs.Fields.{kind_in}
 use Rattle.mm_image.specs.Image.{count_of, image}
 use Rattle.mm_image.specs.Keys.{chunk_key, count_key, key_of, occurrence_key, IsKeyed}
 
@@ -34,6 +35,14 @@ OccurrenceOrder = (v w : List ℕ) (a b : List ℤ) → IsTrue (is_word v) → I
 -- counts stand in the order of the words
 abbrev pub CountOrder : Type 0
 CountOrder = (v w : List ℕ) → slice_cmp nat_cmp (count_key v) (count_key w) ≡ slice_cmp nat_cmp v w
+
+-- a kind is told of its content
+abbrev pub ContentsAreRead : Type 0
+ContentsAreRead = (kind : Kind) → has_valid_parts kind ≡ true → kind_in (content kind) ≡ Some kind
+
+-- bytes of which a kind is told are its content
+abbrev pub ReadAreContents : Type 0
+ReadAreContents = (bytes : List ℕ) (kind : Kind) → ((i : ℕ) → get_or bytes i 0 < 256) → kind_in bytes ≡ Some kind → (bytes ≡ content kind) × (has_valid_parts kind ≡ true)
 
 -- the first piece of a node tells the node's name
 abbrev pub FirstPieceNames : Type 0

@@ -3,6 +3,7 @@ pub mod Content
 pub mod Fields
 pub mod Image
 pub mod Looking
+pub mod Naming
 pub mod Keyed
 pub mod Laws
 pub mod Examples

@@ -1,6 +1,6 @@
 //! Laws of keys, values and images: each is the contract of a function that does nothing.
 
-ghost use Rattle.mm_image.specs.Laws.{ChunkOrder, CountOrder, CountsAreLengths, FirstPieceNames, ImagesRise, ImagesTellForests, KeysAreApart, OccurrenceOrder};
+ghost use Rattle.mm_image.specs.Laws.{ChunkOrder, ContentsAreRead, CountOrder, CountsAreLengths, FirstPieceNames, ImagesRise, ImagesTellForests, KeysAreApart, OccurrenceOrder, ReadAreContents};
 
 use mm_label::laws::{ancestry, byte_order, one_label};
 
@@ -21,6 +21,12 @@ pub fn key_order()
     byte_order();
     ancestry()
 }
+
+/// A kind is read out of its content, and what is read of bytes has them for its content.
+pub fn contents_read_back()
+    ensures told { ContentsAreRead }
+    ensures whole { ReadAreContents }
+{}
 
 /// The first piece of a node tells its name, and the value of a word's count the number of nodes that hold it.
 pub fn values_tell()

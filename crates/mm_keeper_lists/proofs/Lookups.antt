@@ -1,5 +1,5 @@
 -- The entries at the places that a keeper answers.
-use Rattle.std.proofs.Common.{◌≡◌, ℕ, zero, suc, ◌≤◌, Bool, true, false, cond, List, [], ◌∷◌, refl, sym, subst, Option, Some, None, length, arith}
+use Rattle.std.proofs.Common.{inl, inr, ◌≡◌, ℕ, zero, suc, ◌≤◌, Bool, true, false, cond, List, [], ◌∷◌, refl, ap, sym, subst, Option, Some, None, length, arith}
 use Rattle.std.specs.Prelude.{nat_lt, slice_get, IsTrue}
 use Rattle.mm_host.specs.declared.damage.Damage.TheVariants as damage
 use Rattle.mm_host.specs.declared.damage.Fault.{Fault}
@@ -9,13 +9,14 @@ use Rattle.mm_words.specs.Words.{is_word}
 use Rattle.mm_tree.specs.Trees.{Trees}
 use Rattle.mm_tree.specs.Numbering.{Labelled}
 use Rattle.mm_tree.specs.Forests.{is_well_formed}
-use Rattle.mm_lists.specs.Causes.{IsSound}
+use Rattle.mm_lists.specs.Causes.{BlamesOnly, IsSound}
 use Rattle.mm_keeper.specs.Entries.{Entry, Entries, IsSorted, rank, within, first_from, last_to, index_of}
+use Rattle.mm_image.specs.Keys.{count_key}
 use Rattle.mm_image.specs.Image.{image}
 use Rattle.mm_image.specs.Facts.Finding.{IsUp, IsDown, IsAt, up_found, down_found, at_found}
 use Rattle.mm_image.specs.Looking.{entry_at}
 use Rattle.mm_image.specs.Facts.Members.{occurrence_of, listed_label}
-use Rattle.mm_keeper_lists.specs.Found.{Blames}
+use Rattle.mm_keeper_lists.specs.Found.{Blames, BlamesCount, IsDamageOf}
 
 get_past : {X : Type 0} (m : List X) (i : ℕ) → length m ≤ i → slice_get m i ≡ None
 get_past [] i h = refl
@@ -46,13 +47,18 @@ abbrev pub Stands : Entries → Option Entry → Type 0
 Stands m None = Unit {0}
 Stands m (Some e) = Within e m
 
-pub up_stands : (m : Entries) (k : List ℕ) (o : Option Entry) → IsUp m k o → Stands m o
-up_stands m k None h = tt
-up_stands m k (Some e) h = h.0
+pub stands_at : (m : Entries) (at : Option ℕ) → Stands m (entry_at m at)
+stands_at m None = tt
+stands_at m (Some i) = there m i
+  where
+    later : (d : Entry) (m : Entries) (o : Option Entry) → Stands m o → Stands (d ∷ m) o
+    later d m None h = tt
+    later d m (Some e) h = inr h
 
-pub down_stands : (m : Entries) (k : List ℕ) (o : Option Entry) → IsDown m k o → Stands m o
-down_stands m k None h = tt
-down_stands m k (Some e) h = h.0
+    there : (m : Entries) (i : ℕ) → Stands m (slice_get m i)
+    there [] i = tt
+    there (d ∷ m) zero = inl refl
+    there (d ∷ m) (suc i) = later d m (slice_get m i) (there m i)
 
 -- over an image no key is found broken
 pub unbroken : (w : List ℕ) → is_word w ≡ true → (f : Trees Labelled) → IsTrue (is_well_formed f) → (found : Option Entry) → Stands (image f) found → (fault : Fault) → Blames w found fault → IsSound fault
@@ -64,3 +70,22 @@ unbroken w g f k (Some e) i (Damaged (damage.Key key)) b =
     let t = occurrence_of w b.1.0 e f g i b.1.1 in
     absurd (b.1.2 t.0 (listed_label w f k t.0 t.1) (sym t.2))
 unbroken w g f k (Some e) i (Damaged d) b = absurd b
+
+-- ---- over any map
+
+-- what a look-up tells to be damaged is damaged in the map
+pub label_damaged : (m : Entries) (w : List ℕ) → IsTrue (is_word w) → (found : Option Entry) → Stands m found → (fault : Fault) → Blames w found fault → BlamesOnly (IsDamageOf m) fault
+label_damaged m w g found i DiskFault b = tt
+label_damaged m w g found i Spent b = tt
+label_damaged m w g found i Memory b = tt
+label_damaged m w g None i (Damaged d) b = absurd b
+label_damaged m w g (Some e) i (Damaged (damage.Key key)) b = (e, i, (w, g, inl b.1), ap damage.Key b.0)
+label_damaged m w g (Some e) i (Damaged d) b = absurd b
+
+pub count_damaged : (m : Entries) (w : List ℕ) → IsTrue (is_word w) → (found : Option Entry) → IsAt m (count_key w) found → (fault : Fault) → BlamesCount found fault → BlamesOnly (IsDamageOf m) fault
+count_damaged m w g found i DiskFault b = tt
+count_damaged m w g found i Spent b = tt
+count_damaged m w g found i Memory b = tt
+count_damaged m w g None i (Damaged d) b = absurd b
+count_damaged m w g (Some e) i (Damaged (damage.Key key)) b = (e, i.0, (w, g, inr (i.1, b.1)), ap damage.Key b.0)
+count_damaged m w g (Some e) i (Damaged d) b = absurd b

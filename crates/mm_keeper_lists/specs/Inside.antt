@@ -1,1 +1,3 @@
+-- What the calls within this crate know.
 pub mod Own
+pub mod Finding

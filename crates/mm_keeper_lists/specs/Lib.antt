@@ -1,3 +1,4 @@
 pub mod Ranges
 pub mod Found
 pub mod Inside
+pub mod Facts

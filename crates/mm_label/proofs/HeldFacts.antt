@@ -14,7 +14,8 @@ use Rattle.mm_label.specs.Facts.Levels.{level-cons}
 use Rattle.mm_label.specs.Bytes.{spell, bytes_of}
 use Rattle.mm_label.specs.Facts.Order.{splits}
 use Rattle.mm_label.specs.Label.{IsLabel, IsAncestorOrSelf, all_in_range, is_in_range, is_odd, last_odd, is_segment, is_empty, level, IsSegment, IsLastSegment, IsParent}
-use Rattle.mm_label.specs.Inside.Reading.{component_at, components, Found, IsSpelled, StartsLastSegment}
+use Rattle.mm_label.specs.Components.{component_at, components, Found}
+use Rattle.mm_label.specs.Inside.Reading.{IsSpelled, StartsLastSegment}
 use Rattle.mm_label.proofs.Order.{IsInRange}
 use Rattle.mm_label.proofs.ByteLaws.{in_range_is, same_order, front_from_bytes, spelled_once, bytes_of-append}
 use Rattle.mm_label.proofs.Readback.{yes, components_again, read_again, read_takes, spells_some}

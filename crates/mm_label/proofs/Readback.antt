@@ -4,7 +4,7 @@ use Rattle.std.proofs.lemmas.Bool.{cases_lt, and_parts}
 use Rattle.std.proofs.lemmas.Bool.Decides.{nat_tests}
 use Rattle.mm_label.specs.Bytes.{rank, one, two, five, split, spelling, spell, bytes_of}
 use Rattle.mm_label.specs.Label.{is_in_range, all_in_range}
-use Rattle.mm_label.specs.Inside.Reading.{of_rank, Found, low_at, four_at, component_at, then_from, components_from, components}
+use Rattle.mm_label.specs.Components.{of_rank, Found, low_at, four_at, component_at, then_from, components_from, components}
 use Rattle.mm_label.proofs.ByteLaws.{in_range_is}
 use Rattle.mm_label.proofs.Order.{spelling_begins, IsInRange, rank_below, split_low, split_high}
 

@@ -7,7 +7,8 @@ use Rattle.mm_label.specs.Label.{IsLabel, IsAncestorOrSelf, all_in_range, is_in_
 use Rattle.mm_label.specs.Facts.Fronts.{front_trans, front_lca, lca_left, lca_right}
 use Rattle.mm_label.specs.Facts.Order.{splits}
 use Rattle.mm_label.specs.Facts.Parents.{label_whole}
-use Rattle.mm_label.specs.Inside.Reading.{component_at, components, Found, IsSpelled}
+use Rattle.mm_label.specs.Components.{component_at, components, Found}
+use Rattle.mm_label.specs.Inside.Reading.{IsSpelled}
 use Rattle.mm_label.proofs.ByteLaws.{in_range_is, bytes_of-append}
 use Rattle.mm_label.proofs.Readback.{spells_some, components_more, components_none}
 use Rattle.mm_label.proofs.HeldFacts.{step_parts, front_all, IsMade, made_is}

@@ -19,7 +19,7 @@ use mir.Val.{SFits}
 use Rattle.std.specs.Cmp.Lexicographic.{pointwise}
 use Rattle.std.proofs.lemmas.Slice.Eq.{slice_eq-Decides}
 use Rattle.mm_label.specs.Bytes.{bytes_of}
-use Rattle.mm_label.specs.Inside.Reading.{components}
+use Rattle.mm_label.specs.Components.{components}
 use Rattle.mm_label.specs.Label.{IsLabel, is_in_range, all_in_range}
 use Rattle.mm_label.specs.Text.{text_of, dotted}
 use Rattle.mm_label.specs.Inside.Numbers.{IsOnlyNumber, AreOnlyNumbers, IsOnlyReading}

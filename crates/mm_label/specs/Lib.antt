@@ -1,4 +1,5 @@
 pub mod Bytes
+pub mod Components
 pub mod Label
 pub mod Between
 pub mod Text

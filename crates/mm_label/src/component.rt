@@ -3,7 +3,8 @@
 ghost use Rattle.std.specs.Prelude.{◌≡◌, ◌<◌, IsTrue, IfOk};
 ghost use Rattle.mm_label.specs.Bytes.{rank};
 ghost use Rattle.mm_label.specs.Label.{is_odd, is_in_range};
-ghost use Rattle.mm_label.specs.Inside.Reading.{component_at, low_at, four_at, of_rank, components, Finds};
+ghost use Rattle.mm_label.specs.Components.{component_at, low_at, four_at, of_rank, components};
+ghost use Rattle.mm_label.specs.Inside.Reading.{Finds};
 
 use std::alloc::{AllocError, Global};
 

@@ -8,7 +8,7 @@ ghost use Rattle.std.proofs.Common.{rules};
 ghost use Rattle.mm_label.specs.Bytes.{bytes_of};
 ghost use Rattle.mm_label.specs.Label.{IsLabel, IsAncestorOrSelf, IsParent, IsSegment, IsLastSegment, SpellsNoLabel, label_limit, level, lca, all_in_range};
 ghost use Rattle.mm_label.specs.Fronts.{is_front};
-ghost use Rattle.mm_label.specs.Inside.Reading.{components};
+ghost use Rattle.mm_label.specs.Components.{components};
 ghost use Rattle.mm_label.specs.Text.{text_of};
 ghost use Rattle.mm_label.specs.Refusals.{RefusesLabel, RefusesText, front_of};
 
@@ -33,7 +33,8 @@ impl Model for Label {
 
     ghost Value = { List ℤ };
 
-    ghost use Rattle.mm_label.specs.Inside.Reading.{components, IsSpelled};
+    ghost use Rattle.mm_label.specs.Components.{components};
+    ghost use Rattle.mm_label.specs.Inside.Reading.{IsSpelled};
 
     ghost view = { λ a. components a.bytes.items };
 

@@ -4,6 +4,7 @@ ghost use Rattle.std.specs.Prelude.{◌≡◌, ◌↔◌, ◌++◌, List, ℤ, O
 ghost use Rattle.std.specs.Cmp.Lexicographic.{slice_cmp};
 ghost use Rattle.std.specs.Ordering.{nat_cmp, int_cmp};
 ghost use Rattle.mm_label.specs.Bytes.{bytes_of};
+ghost use Rattle.mm_label.specs.Components.{components};
 ghost use Rattle.mm_label.specs.Label.{IsLabel, IsAncestorOrSelf, IsPrefix, is_segment, lca};
 ghost use Rattle.mm_label.specs.Text.{text_of};
 ghost use Rattle.mm_label.specs.Between.{between, IsOrdered, LiesBetween};
@@ -22,6 +23,11 @@ pub fn ancestry()
 /// Bytes spell at most one label.
 pub fn one_label()
     ensures { (a b : List ℤ) → IsLabel a → IsLabel b → bytes_of a ≡ bytes_of b → a ≡ b }
+{}
+
+/// The components that the bytes of a label spell are the label.
+pub fn reads_back()
+    ensures { (a : List ℤ) → IsLabel a → components (bytes_of a) ≡ a }
 {}
 
 /// A text is the canonical text of at most one label.

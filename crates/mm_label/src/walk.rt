@@ -3,7 +3,8 @@
 ghost use Rattle.std.specs.Prelude.{◌≡◌, length, MatchBool};
 ghost use Rattle.mm_label.specs.Bytes.{bytes_of};
 ghost use Rattle.mm_label.specs.Label.{SpellsNoLabel, level, lca};
-ghost use Rattle.mm_label.specs.Inside.Reading.{component_at, components, IsSpelled, StartsLastSegment, FindsBoth};
+ghost use Rattle.mm_label.specs.Components.{component_at, components};
+ghost use Rattle.mm_label.specs.Inside.Reading.{IsSpelled, StartsLastSegment, FindsBoth};
 
 use crate::component::{component_at, is_odd};
 use crate::spelling::LABEL_LIMIT;

@@ -1,6 +1,7 @@
 -- Why a call on lists was refused.
 use Rattle.std.specs.Prelude.{ℕ, ◌≤◌, ◌≡◌, Bool, true, Result, OnOk, IfErr}
 use Rattle.mm_host.specs.Causes.{Rose}
+use Rattle.mm_host.specs.declared.damage.Damage.{Damage}
 use Rattle.mm_host.specs.declared.damage.Fault.{Fault}
 use Rattle.mm_host.specs.declared.damage.Fault.TheVariants.{DiskFault, Damaged, Spent, Memory}
 
@@ -23,3 +24,10 @@ IsSound DiskFault = Unit {0}
 IsSound (Damaged d) = ⊥
 IsSound Spent = Unit {0}
 IsSound Memory = Unit {0}
+
+-- damage is told only where this is damaged
+abbrev pub BlamesOnly : (Damage → Type 0) → Fault → Type 0
+BlamesOnly damaged DiskFault = Unit {0}
+BlamesOnly damaged (Damaged d) = damaged d
+BlamesOnly damaged Spent = Unit {0}
+BlamesOnly damaged Memory = Unit {0}

@@ -73,7 +73,7 @@ fn narrow_by<X: Lists, L: Ledger>(
 ) -> Result<Option<Label>, Fault>
     ensures value { (f : Trees Labelled) (ls : List (List Label)) → X.stands lists.old f → Meets [] (list_of word.now (worded f)) → IsCandidate ls v.now (or_empty x)
         → IfOk result (λ y. IsCandidate (ls ++ list_of word.now (worded f) ∷ []) v.now (or_empty y)) }
-    ensures leaves { Leaves X.stands X.same_ground X.fault_count X.spent lists.old lists.new result }
+    ensures leaves { Leaves X.stands X.same_ground X.blames X.fault_count X.spent lists.old lists.new result }
     ensures cost { steps.new ≤ steps.old + 2 }
 {
     let left = lists.left(word, v, steps)?;
@@ -94,7 +94,7 @@ fn narrow_at<X: Lists, L: Ledger>(
 ) -> Result<Option<Label>, Fault>
     ensures value { (f : Trees Labelled) (ls : List (List Label)) → X.stands lists.old f → Meets [] (list_of word.now (worded f)) → (skip ≡ true → Within v.now (list_of word.now (worded f))) → IsCandidate ls v.now (or_empty x)
         → IfOk result (λ y. IsCandidate (ls ++ list_of word.now (worded f) ∷ []) v.now (or_empty y)) }
-    ensures leaves { Leaves X.stands X.same_ground X.fault_count X.spent lists.old lists.new result }
+    ensures leaves { Leaves X.stands X.same_ground X.blames X.fault_count X.spent lists.old lists.new result }
     ensures cost { steps.new ≤ steps.old + 2 }
     ensures skipped { skip ≡ true → steps.new ≡ steps.old }
 {
@@ -117,7 +117,7 @@ pub fn candidate<X: Lists, L: Ledger>(
     requires { own < length words.now }
     ensures value { (f : Trees Labelled) → IsTrue (is_well_formed f) → X.stands lists.old f → MeetsAll [] (lists_of words.now (worded f)) → Within v.now (list_of (get_or words.now own []) (worded f))
         → IfOk result (λ c. IsCandidate (lists_of words.now (worded f)) v.now (or_empty c)) }
-    ensures leaves { Leaves X.stands X.same_ground X.fault_count X.spent lists.old lists.new result }
+    ensures leaves { Leaves X.stands X.same_ground X.blames X.fault_count X.spent lists.old lists.new result }
     ensures cost { steps.new + 2 ≤ steps.old + 2 * length words.now }
 {
     let mut x = Some(v.copy(alloc)?);
@@ -141,7 +141,7 @@ pub fn next_candidate<X: Lists, L: Ledger>(
     requires { own < length words.now }
     ensures value { (f : Trees Labelled) (i : ℕ) → IsTrue (is_well_formed f) → X.stands lists.old f → MeetsAll [] (lists_of words.now (worded f)) → at.old ≡ head_of (drop i (list_of (get_or words.now own []) (worded f)))
         → IfOk result (Advances (lists_of words.now (worded f)) (list_of (get_or words.now own []) (worded f)) i at.old at.new) }
-    ensures leaves { Leaves X.stands X.same_ground X.fault_count X.spent lists.old lists.new result }
+    ensures leaves { Leaves X.stands X.same_ground X.blames X.fault_count X.spent lists.old lists.new result }
     ensures cost { steps.new + 1 ≤ steps.old + 2 * length words.now }
 {
     let Some(v) = at.take() else {

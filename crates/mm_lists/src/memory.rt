@@ -87,10 +87,13 @@ impl MemLists {
 impl Lists for MemLists {
     ghost use Rattle.std.specs.Prelude.{false};
     ghost use Rattle.mm_lists.specs.Memory.{AreOf};
+    ghost use Rattle.mm_lists.specs.Facts.Keeping.{kept_same};
 
     ghost stands = { λ l f. AreOf l.lists f };
 
     ghost same_ground = { λ k l. l.lists ≡ k.lists };
+
+    ghost blames = { λ _ _. ⊥ };
 
     ghost fault_count = { λ _. 0 };
 
@@ -165,4 +168,6 @@ impl Lists for MemLists {
     ghost same_itself = { λ x. refl };
 
     ghost same_along = { λ x y z p q. q ∙ p };
+
+    ghost same_blames = { λ _ _ _ _. kept_same ⊥ };
 }

@@ -38,7 +38,7 @@ pub fn find_shortest<X: Lists, L: Ledger>(
     requires { 0 < length words.now }
     ensures value { (f : Trees Labelled) → X.stands lists.old f → IfOk result (λ s. IsShortest words.now (worded f) s.at s.size) }
     ensures within { IfOk result (λ s. s.at < length words.now) }
-    ensures leaves { Leaves X.stands X.same_ground X.fault_count X.spent lists.old lists.new result }
+    ensures leaves { Leaves X.stands X.same_ground X.blames X.fault_count X.spent lists.old lists.new result }
     ensures cost { steps.new ≤ steps.old + length words.now }
 {
     let mut best = Shortest {

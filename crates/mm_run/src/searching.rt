@@ -67,7 +67,7 @@ fn push_fragment<X: Lists, L: Ledger>(
 ) -> Result<(), Fault>
     ensures value { X.stands lists.old (forest_of forest.now) → AreTold query.now (forest_of forest.now) labels.now
         → OnOk result (map fragment_tree fragments.new ≡ map fragment_tree fragments.old ++ fragment_at query.now (found root.now (forest_of forest.now))) }
-    ensures leaves { Leaves X.stands X.same_ground X.fault_count X.spent lists.old lists.new result }
+    ensures leaves { Leaves X.stands X.same_ground X.blames X.fault_count X.spent lists.old lists.new result }
     ensures cost { X.stands lists.old (forest_of forest.now) → AreTold query.now (forest_of forest.now) labels.now
         → steps.new ≤ steps.old + fragment_cost query.now (found root.now (forest_of forest.now)) }
 {
@@ -90,7 +90,7 @@ fn fragments_of<X: Lists, L: Ledger>(
 ) -> Result<Fragments, Fault>
     ensures value { X.stands lists.old (forest_of forest.now) → AreTold query.now (forest_of forest.now) labels.now
         → IfOk result (λ fs. map fragment_tree fs ≡ fragments_of query.now (forest_of forest.now) labels.now) }
-    ensures leaves { Leaves X.stands X.same_ground X.fault_count X.spent lists.old lists.new result }
+    ensures leaves { Leaves X.stands X.same_ground X.blames X.fault_count X.spent lists.old lists.new result }
     ensures cost { X.stands lists.old (forest_of forest.now) → AreTold query.now (forest_of forest.now) labels.now
         → steps.new ≤ steps.old + fragments_cost query.now (forest_of forest.now) labels.now }
 {
@@ -119,7 +119,7 @@ fn roots<X: Lists, L: Ledger>(
     steps: &mut Steps<L>,
 ) -> Result<Items<Label>, Fault>
     ensures value { (f : Trees Labelled) → IsTrue (is_well_formed f) → X.stands lists.old f → IfOk result (λ labels. labels ≡ roots find query.now f) }
-    ensures leaves { Leaves X.stands X.same_ground X.fault_count X.spent lists.old lists.new result }
+    ensures leaves { Leaves X.stands X.same_ground X.blames X.fault_count X.spent lists.old lists.new result }
     ensures cost { (f : Trees Labelled) → X.stands lists.old f → steps.new ≤ steps.old + roots_cost find query.now f }
 {
     match find {
@@ -138,7 +138,7 @@ fn found<X: Lists, L: Ledger>(
     steps: &mut Steps<L>,
 ) -> Result<Reply, Fault>
     ensures value { X.stands lists.old (forest_of forest.now) → IfOk result (λ reply. reply_text reply ≡ found_text find query.now (forest_of forest.now) (roots find query.now (forest_of forest.now))) }
-    ensures leaves { Leaves X.stands X.same_ground X.fault_count X.spent lists.old lists.new result }
+    ensures leaves { Leaves X.stands X.same_ground X.blames X.fault_count X.spent lists.old lists.new result }
     ensures cost { X.stands lists.old (forest_of forest.now) → steps.new ≤ steps.old + find_cost find query.now (forest_of forest.now) }
 {
     answers_are_smallest();

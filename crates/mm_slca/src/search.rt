@@ -34,7 +34,7 @@ fn pass<X: Lists, L: Ledger>(
     ensures value { (f : Trees Labelled) (i : ℕ) → IsTrue (is_well_formed f) → X.stands lists.old f → MeetsAll [] (lists_of words.now (worded f))
         → Stands (lists_of words.now (worded f)) (list_of (get_or words.now own []) (worded f)) i walk.old.done (or_empty walk.old.held) at.old
         → OnOk result (Stands (lists_of words.now (worded f)) (list_of (get_or words.now own []) (worded f)) (i + 1) walk.new.done (or_empty walk.new.held) at.new) }
-    ensures leaves { Leaves X.stands X.same_ground X.fault_count X.spent lists.old lists.new result }
+    ensures leaves { Leaves X.stands X.same_ground X.blames X.fault_count X.spent lists.old lists.new result }
     ensures cost { steps.new + 1 ≤ steps.old + 2 * length words.now }
 {
     let found = next_candidate(alloc, words, own, at, lists, steps)?;
@@ -55,7 +55,7 @@ fn walk_list<X: Lists, L: Ledger>(
     requires { own < length words.now }
     ensures value { (f : Trees Labelled) → IsTrue (is_well_formed f) → X.stands lists.old f → MeetsAll [] (lists_of words.now (worded f)) → length (list_of (get_or words.now own []) (worded f)) ≡ size
         → IfOk result (λ r. r ≡ slca words.now (worded f)) }
-    ensures leaves { Leaves X.stands X.same_ground X.fault_count X.spent lists.old lists.new result }
+    ensures leaves { Leaves X.stands X.same_ground X.blames X.fault_count X.spent lists.old lists.new result }
     ensures cost { steps.new + size ≤ steps.old + 1 + 2 * length words.now * size }
 {
     let mut walk = Walk {
@@ -77,8 +77,8 @@ fn walk_list<X: Lists, L: Ledger>(
 /// # Errors
 ///
 /// `Memory` where there was none, and else what the lists refuse: `DiskFault` only where their count of
-/// faults rose in this call, `Spent` only where they were spent before, `Damaged` never where they stand
-/// for a forest.
+/// faults rose in this call, `Spent` only where they were spent before, `Damaged` only with what is damaged
+/// there, and never where they stand for a forest.
 pub fn answers<X: Lists, L: Ledger>(
     alloc: Global,
     query: &Query,
@@ -86,7 +86,7 @@ pub fn answers<X: Lists, L: Ledger>(
     steps: &mut Steps<L>,
 ) -> Result<Items<Label>, Fault>
     ensures value { (f : Trees Labelled) → IsTrue (is_well_formed f) → X.stands lists.old f → IfOk result (λ r. r ≡ slca query.now (worded f)) }
-    ensures leaves { Leaves X.stands X.same_ground X.fault_count X.spent lists.old lists.new result }
+    ensures leaves { Leaves X.stands X.same_ground X.blames X.fault_count X.spent lists.old lists.new result }
     ensures cost { (f : Trees Labelled) → X.stands lists.old f → steps.new ≤ steps.old + cost_of (lists_of query.now (worded f)) }
 {
     let words = query.words();

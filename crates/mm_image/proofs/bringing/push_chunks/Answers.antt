@@ -3,7 +3,8 @@ use Rattle.mm_keeper.specs.Entries.{Entries}
 use Rattle.mm_image.specs.Inside.Cutting.{numbered}
 use Rattle.mm_image.specs.Keyed.{keyed}
 use Rattle.mm_image.proofs.Results.{on_ok}
-use Rattle.mm_image.proofs.ChunkFacts.{pieces_few, valid_parts, chunks_are}
+use Rattle.mm_image.specs.Facts.Pieces.{pieces_few, chunks_are}
+use Rattle.mm_image.proofs.ChunkFacts.{valid_parts}
 use Rattle.mm_image.proofs.bringing.push_chunks.Goals as goal
 
 pub pieces_of-requires : goal.pieces_of-requires

@@ -1,5 +1,5 @@
 use Rattle.std.proofs.Common.{◌≡◌, ◌++◌, length}
-use Rattle.mm_label.specs.Inside.Reading.{components}
+use Rattle.mm_label.specs.Components.{components}
 use Rattle.mm_label.proofs.component.components.Given as goal
 
 abbrev pub invariant-loop-c : goal.invariant-loop-c

@@ -1,29 +1,16 @@
-use Rattle.std.proofs.Common.{ap, ◌∙◌, append-nil}
-use Rattle.mm_label.specs.Bytes.{bytes_of}
+use Rattle.std.proofs.Common.{ℕ, List, [], ◌++◌, subst, ◌∙◌, append-nil}
+use Rattle.std.proofs.lemmas.Result.{IfOk-weaker}
+use Rattle.mm_image.specs.Image.{image}
+use Rattle.mm_image.specs.Facts.Finding.{IsDown}
 use Rattle.mm_tree.specs.Search.{list_of, worded}
 use Rattle.mm_lists.specs.Lists.{IsLeft}
+use Rattle.mm_keeper_lists.specs.Inside.Finding.{TellsDown}
 use Rattle.mm_keeper_lists.specs.Ranges.{range_key}
 use Rattle.mm_keeper_lists.proofs.Searching.{left_is}
-use Rattle.mm_keeper_lists.proofs.Answering.{down_told, down_sound, kept}
 use Rattle.mm_keeper_lists.proofs.lists.KeeperListsLists.left.Goals as goal
 
-pub returns-in-Ok-clause-value : goal.returns-in-Ok-clause-value
-returns-in-Ok-clause-value g c = λ f s.
-    let k = c.args.self.now.keeper.now in
-    let m = (g.K.Keeper.seen k).now in
+pub returns-clause-value : goal.returns-clause-value
+returns-clause-value g c = λ f s.
     let w = c.args.word.now in
-    let v = c.args.at.now in
-    down_told (IsLeft (list_of w (worded f)) v) w c.deref.result.now (range_key w (bytes_of v)) f m s.2 (g.met.K.Keeper.sorted k c.args.self.now.sound s.0)
-    (c.deref.ensures.value ∙ c.in-Ok.ensures.key ∙ ap (range_key w) (append-nil (bytes_of v)))
-    (λ e o. left_is c.byte_order.ensures w c.in-Ok.ensures.word f s.1 v c.in-Ok.ensures.label e o) c.look_down.result ((c.look_down.ensures.reads s.0).told)
-
-pub returns-in-Ok-clause-leaves : goal.returns-in-Ok-clause-leaves
-returns-in-Ok-clause-leaves g c =
-    let k = c.args.self.now.keeper.now in
-    let m = (g.K.Keeper.seen k).now in
-    record {
-      kept = λ f. kept g.K.Keeper.over g.K.Keeper.has_maps g.K.Keeper.tells g.K.Keeper.seen g.K.Keeper.written g.K.Keeper.changes g.K.Keeper.moment g.K.Keeper.left_since k c.look_down.new.self.keeper.now c.look_down.ensures.ground f;
-      ground = (c.look_down.ensures.same_reference, c.look_down.ensures.ground);
-      cause = c.look_down.ensures.cause;
-      sound = λ f s. down_sound c.args.word.now c.deref.result.now f m c.in-Ok.ensures.word s.1 s.2 (g.met.K.Keeper.sorted k c.args.self.now.sound s.0) c.look_down.result ((c.look_down.ensures.reads s.0).blame);
-    }
+    IfOk-weaker c.look_down.result (TellsDown f w (range_key w (c.as_bytes.result.now ++ []))) (IsLeft (list_of w (worded f)) c.args.at.now) (λ o u. left_is c.byte_order.ensures w c.look_down.ensures.word f s.1 c.args.at.now c.as_bytes.ensures.label u.0 o
+    (subst (λ (b : List ℕ). IsDown (image f) (range_key w (b)) u.0) (append-nil _ ∙ c.as_bytes.ensures.value) u.1) u.2) (c.look_down.ensures.value f s)

@@ -1,29 +1,16 @@
-use Rattle.std.proofs.Common.{◌∙◌, ◌∷◌, ◌++◌, []}
-use Rattle.mm_label.specs.Bytes.{bytes_of}
+use Rattle.std.proofs.Common.{ℕ, List, [], ◌∷◌, ◌++◌, subst}
+use Rattle.std.proofs.lemmas.Result.{IfOk-weaker}
+use Rattle.mm_image.specs.Image.{image}
+use Rattle.mm_image.specs.Facts.Finding.{IsUp}
 use Rattle.mm_tree.specs.Search.{list_of, worded}
 use Rattle.mm_lists.specs.Lists.{IsNext}
+use Rattle.mm_keeper_lists.specs.Inside.Finding.{TellsUp}
 use Rattle.mm_keeper_lists.specs.Ranges.{range_key}
 use Rattle.mm_keeper_lists.proofs.Searching.{next_is}
-use Rattle.mm_keeper_lists.proofs.Answering.{up_told, up_sound, kept}
 use Rattle.mm_keeper_lists.proofs.lists.KeeperListsLists.next.Goals as goal
 
-pub returns-in-Ok-clause-value : goal.returns-in-Ok-clause-value
-returns-in-Ok-clause-value g c = λ f s.
-    let k = c.args.self.now.keeper.now in
-    let m = (g.K.Keeper.seen k).now in
+pub returns-clause-value : goal.returns-clause-value
+returns-clause-value g c = λ f s.
     let w = c.args.word.now in
-    let v = c.args.at.now in
-    up_told (IsNext (list_of w (worded f)) v) w c.deref.result.now (range_key w (bytes_of v ++ 0 ∷ [])) f m s.2 (g.met.K.Keeper.sorted k c.args.self.now.sound s.0)
-    (c.deref.ensures.value ∙ c.in-Ok.ensures.key)
-    (λ e o. next_is c.byte_order.ensures w c.in-Ok.ensures.word f s.1 v c.in-Ok.ensures.label e o) c.look_up.result ((c.look_up.ensures.reads s.0).told)
-
-pub returns-in-Ok-clause-leaves : goal.returns-in-Ok-clause-leaves
-returns-in-Ok-clause-leaves g c =
-    let k = c.args.self.now.keeper.now in
-    let m = (g.K.Keeper.seen k).now in
-    record {
-      kept = λ f. kept g.K.Keeper.over g.K.Keeper.has_maps g.K.Keeper.tells g.K.Keeper.seen g.K.Keeper.written g.K.Keeper.changes g.K.Keeper.moment g.K.Keeper.left_since k c.look_up.new.self.keeper.now c.look_up.ensures.ground f;
-      ground = (c.look_up.ensures.same_reference, c.look_up.ensures.ground);
-      cause = c.look_up.ensures.cause;
-      sound = λ f s. up_sound c.args.word.now c.deref.result.now f m c.in-Ok.ensures.word s.1 s.2 (g.met.K.Keeper.sorted k c.args.self.now.sound s.0) c.look_up.result ((c.look_up.ensures.reads s.0).blame);
-    }
+    IfOk-weaker c.look_up.result (TellsUp f w (range_key w (c.as_bytes.result.now ++ 0 ∷ []))) (IsNext (list_of w (worded f)) c.args.at.now) (λ o u. next_is c.byte_order.ensures w c.look_up.ensures.word f s.1 c.args.at.now c.as_bytes.ensures.label u.0 o
+    (subst (λ (b : List ℕ). IsUp (image f) (range_key w (b ++ 0 ∷ [])) u.0) c.as_bytes.ensures.value u.1) u.2) (c.look_up.ensures.value f s)

@@ -1,5 +1,6 @@
 use Rattle.std.proofs.Common.{◌-◌, ℕ, List, take, drop, length, subst, sym}
-use Rattle.mm_label.specs.Inside.Reading.{StartsLastSegment, components}
+use Rattle.mm_label.specs.Components.{components}
+use Rattle.mm_label.specs.Inside.Reading.{StartsLastSegment}
 use Rattle.mm_label.proofs.HeldFacts.{ReadsSegment, segment_reads, given_last, given_segment}
 use Rattle.mm_label.proofs.labels.Label.segment.Goals as goal
 

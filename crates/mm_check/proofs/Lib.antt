@@ -1,0 +1,12 @@
+mod Differences
+mod Parts
+mod Explaining
+mod Order
+mod Planting
+mod Forming
+mod Lasting
+mod Running
+mod Hanging
+mod Sound
+mod Passing
+mod Fronting

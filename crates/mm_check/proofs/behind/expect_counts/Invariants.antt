@@ -1,0 +1,16 @@
+use Rattle.std.specs.Prelude.{◌≡◌, ◌≤◌, ◌<◌, ◌+◌, ◌++◌, map, length, option_map, IfSome, None}
+use Rattle.mm_keeper.specs.Entries.{Entries}
+use Rattle.mm_image.specs.Ground.{Accounts, SameGround}
+use Rattle.mm_check.specs.Blame.{first_difference}
+use Rattle.mm_check.specs.Inside.Stopping.{counted_list, from}
+use Rattle.mm_check.proofs.behind.expect_counts.Given as goal
+
+abbrev pub invariant-loop-word : goal.invariant-loop-word
+invariant-loop-word g l = record {
+  ground : SameGround g.K.Keeper.over g.K.Keeper.has_maps g.K.Keeper.tells g.K.Keeper.seen g.K.Keeper.written g.K.Keeper.changes g.K.Keeper.moment g.K.Keeper.left_since l.fn.keeper l.keeper;
+  accounts : Accounts g.K.Keeper.is_sound g.K.Keeper.is_spent g.K.Keeper.fault_count g.K.Keeper.want_count l.fn.keeper l.keeper None;
+  differs : g.K.Keeper.has_maps l.fn.keeper → (due : Entries) → first_difference (from (g.K.Keeper.seen l.fn.keeper).now (option_map (g.K.Keeper.seen l.fn.keeper).place l.fn.at)) (map counted_list l.lists.entries ++ due)
+      ≡ first_difference (from (g.K.Keeper.seen l.fn.keeper).now (option_map (g.K.Keeper.seen l.fn.keeper).place l.at)) (map counted_list l.word-iterator ++ due);
+  stands : g.K.Keeper.has_maps l.fn.keeper → IfSome l.at (λ s. (g.K.Keeper.seen l.fn.keeper).place s < length (g.K.Keeper.seen l.fn.keeper).now);
+  left : g.K.Keeper.has_maps l.fn.keeper → l.steps + length (from (g.K.Keeper.seen l.fn.keeper).now (option_map (g.K.Keeper.seen l.fn.keeper).place l.at)) ≤ l.fn.steps + length (from (g.K.Keeper.seen l.fn.keeper).now (option_map (g.K.Keeper.seen l.fn.keeper).place l.fn.at));
+}

@@ -1,0 +1,2 @@
+-- What the calls within this crate know.
+pub mod Stopping

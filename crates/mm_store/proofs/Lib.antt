@@ -1,0 +1,4 @@
+pub mod Found
+pub mod Shown
+pub mod Naming
+pub mod Told

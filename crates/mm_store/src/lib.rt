@@ -1,0 +1,9 @@
+//! A store of XML documents over a keeper that holds a forest's image: searches, and the subtrees of its nodes.
+#![tactic(auto)]
+
+mod fragments;
+mod hits;
+mod roots;
+mod store;
+
+pub use store::{Store, StoreError};
