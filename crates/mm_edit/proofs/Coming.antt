@@ -10,8 +10,8 @@ use Rattle.mm_tree.specs.Edits.{delete_refusal, found, has_node, insert, insert_
 use Rattle.mm_tree.specs.Forests.{is_well_formed, load, load_refusal, next_label, numbered_behind}
 use Rattle.mm_tree.specs.Numbering.{Labelled, number}
 use Rattle.mm_tree.specs.Staying.{InsertStaysFormed, LoadStaysFormed, ReplaceStaysFormed}
-use Rattle.mm_tree.specs.Trees.{Tree, Trees, none, node, one, preorder}
-use Rattle.mm_tree.specs.Untouched.{InsertLeaves, LoadLeaves, OneRun, ReplaceLeaves}
+use Rattle.mm_tree.specs.Trees.{Tree, Trees, none, one, preorder}
+use Rattle.mm_tree.specs.Untouched.{InsertLeaves, LoadLeaves, ReplaceLeaves}
 use Rattle.mm_tree.specs.Validity.{is_valid_tree}
 use Rattle.mm_edit.specs.declared.plan.EditError.{EditError}
 use Rattle.mm_edit.specs.declared.plan.EditError.TheVariants as error

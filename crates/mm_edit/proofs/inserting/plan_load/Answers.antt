@@ -1,17 +1,14 @@
 use Rattle.std.proofs.Common.{◌∙◌, ap, arith, length, subst, sym, IfErr, IfOk, Option}
 use Rattle.std.proofs.lemmas.Result.{err_from_is_err_and}
-use Rattle.mm_keeper.specs.Entries.{Entries}
 use Rattle.mm_keeper.specs.Keeping.{Seen}
 use Rattle.mm_tree.specs.declared.refusal.Refusal.{Refusal}
-use Rattle.mm_tree.specs.Edits.{insert, insert_refusal}
 use Rattle.mm_tree.specs.Forests.{load, load_refusal}
 use Rattle.mm_tree.specs.Numbering.{node_of}
-use Rattle.mm_tree.specs.Trees.{none, nodes, one, tree_of}
+use Rattle.mm_tree.specs.Trees.{none, one, tree_of}
 use Rattle.mm_image.specs.Image.{image}
 use Rattle.mm_edit.specs.Plans.{HasRoomFor, IsRefusedBy, or_full}
 use Rattle.mm_edit.proofs.Editing.{swap_leads}
-use Rattle.mm_edit.proofs.Coming.{exact_nodes, if_err_so, load_becomes, on_ok_so, or_refused, put_cost}
-use Rattle.mm_edit.proofs.Numbers.{ok_more}
+use Rattle.mm_edit.proofs.Coming.{load_becomes, on_ok_so, or_refused, put_cost}
 use Rattle.mm_edit.proofs.Targets.{words_few}
 use Rattle.mm_edit.proofs.inserting.plan_load.Goals as goal
 

@@ -1,4 +1,4 @@
-use Rattle.std.proofs.Common.{◌≡◌, ◌≤◌, ◌∙◌, ap, arith, length, refl, subst, sym, IfErr, IfOk, None, Option}
+use Rattle.std.proofs.Common.{◌≤◌, ◌∙◌, ap, arith, length, subst, sym, IfErr, IfOk, Option}
 use Rattle.std.specs.Prelude.{option_map}
 use Rattle.std.proofs.lemmas.Result.{err_from_is_err_and}
 use Rattle.mm_keeper.specs.Entries.{Entries, IsSorted}
@@ -13,7 +13,7 @@ use Rattle.std.specs.Prelude.{IsTrue}
 use Rattle.mm_image.specs.Facts.Grounds.{ground_along}
 use Rattle.mm_image.specs.Image.{entries_of, image}
 use Rattle.mm_image.specs.Subtrees.{run_of}
-use Rattle.mm_image.proofs.Standing.{stands}
+use Rattle.mm_image.specs.Facts.Standing.{stands}
 use Rattle.mm_edit.specs.Inside.Changes.{Becomes, changes}
 use Rattle.mm_edit.specs.Plans.{HasRoomFor, IsRefusedBy, of_tree, or_full}
 use Rattle.mm_edit.proofs.Coming.{on_ok_so, or_refused, replace_becomes, replaced_absent, replaced_as}
@@ -74,7 +74,7 @@ returns-in_ok-node-in-Some-clause-accepted g c = λ f s.
     let e = replaced_as x t f (accepted x f n is) ∙ c.in_ok-node-in-Some.ensures.accepted in
     let all = ap forest_of c.from_ref.ensures.value in
     let becomes = subst (λ (z : Trees Labelled). Becomes f (replace x t f) z (one u)) (sym all)
-        (replace_becomes c.untouched.ensures.replace c.edits_stay_formed.ensures.replace x n t f u s.1 c.requires.valid is e c.in_ok-node-in-Some.ensures.node) in
+    (replace_becomes c.untouched.ensures.replace c.edits_stay_formed.ensures.replace x n t f u s.1 c.requires.valid is e c.in_ok-node-in-Some.ensures.node) in
     let ground = c.subtree.ensures.ground in
     on_ok_so c.plan_with.result (λ a. ap (λ (r : Option Refusal). or_full r c.args.limit (replace x t f)) e ∙ a)
     (c.plan_with.ensures.accepted f (replace x t f) (ground.maps.0 s.0, s.1, ap (λ z. z.now) (ground.same s.0) ∙ s.2) becomes)
@@ -89,7 +89,7 @@ returns-in_ok-node-in-Some-clause-refused g c = λ f s.
     let e = replaced_as x t f (accepted x f n is) ∙ c.in_ok-node-in-Some.ensures.accepted in
     let all = ap forest_of c.from_ref.ensures.value in
     let becomes = subst (λ (z : Trees Labelled). Becomes f (replace x t f) z (one u)) (sym all)
-        (replace_becomes c.untouched.ensures.replace c.edits_stay_formed.ensures.replace x n t f u s.1 c.requires.valid is e c.in_ok-node-in-Some.ensures.node) in
+    (replace_becomes c.untouched.ensures.replace c.edits_stay_formed.ensures.replace x n t f u s.1 c.requires.valid is e c.in_ok-node-in-Some.ensures.node) in
     let ground = c.subtree.ensures.ground in
     subst (λ (r : Option Refusal). IfErr c.plan_with.result (IsRefusedBy (or_full r c.args.limit (replace x t f)))) (sym e)
     (c.plan_with.ensures.refused f (replace x t f) (ground.maps.0 s.0, s.1, ap (λ z. z.now) (ground.same s.0) ∙ s.2) becomes)
@@ -104,7 +104,7 @@ returns-in_ok-node-in-Some-clause-difference g c = λ f s.
     let e = replaced_as x t f (accepted x f n is) ∙ c.in_ok-node-in-Some.ensures.accepted in
     let all = ap forest_of c.from_ref.ensures.value in
     let becomes = subst (λ (z : Trees Labelled). Becomes f (replace x t f) z (one u)) (sym all)
-        (replace_becomes c.untouched.ensures.replace c.edits_stay_formed.ensures.replace x n t f u s.1 c.requires.valid is e c.in_ok-node-in-Some.ensures.node) in
+    (replace_becomes c.untouched.ensures.replace c.edits_stay_formed.ensures.replace x n t f u s.1 c.requires.valid is e c.in_ok-node-in-Some.ensures.node) in
     let ground = c.subtree.ensures.ground in
     c.plan_with.ensures.difference f (replace x t f) (ground.maps.0 s.0, s.1, ap (λ z. z.now) (ground.same s.0) ∙ s.2) becomes
 
@@ -131,7 +131,7 @@ returns-in_ok-node-in-Some-clause-cost g c = λ f s.
     let e = replaced_as x t f (accepted x f n is) ∙ c.in_ok-node-in-Some.ensures.accepted in
     let all = ap forest_of c.from_ref.ensures.value in
     let becomes = subst (λ (z : Trees Labelled). Becomes f (replace x t f) z (one u)) (sym all)
-        (replace_becomes c.untouched.ensures.replace c.edits_stay_formed.ensures.replace x n t f u s.1 c.requires.valid is e c.in_ok-node-in-Some.ensures.node) in
+    (replace_becomes c.untouched.ensures.replace c.edits_stay_formed.ensures.replace x n t f u s.1 c.requires.valid is e c.in_ok-node-in-Some.ensures.node) in
     let m = (g.K.Keeper.seen c.args.keeper.now).now in
     let given = one u in
     let taken = forest_of c.from_ref.result.now in
@@ -167,4 +167,3 @@ returns-in-None-clause-early g c = λ f s n.
     let m = (g.K.Keeper.seen c.args.keeper.now).now in
     let few = subst (λ (z : Entries). length (run_of x m) ≤ length z) s.2 (run_few x m) in
     omega (arith, c.subtree.ensures.cost s.0, few)
-
