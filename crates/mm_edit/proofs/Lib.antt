@@ -22,3 +22,4 @@ pub mod Below
 pub mod Targeting
 pub mod Numbered
 pub mod WordSets
+pub mod Coming

@@ -1,11 +1,11 @@
 -- The neighbours of a gap, from the last label or the first one that a look-up finds.
-use Rattle.std.proofs.Common.{inl, inr, ◌≡◌, ◌⊎◌, Bool, true, false, ◌||◌, List, [], ◌∷◌, ◌++◌, map, refl, ap, sym, subst, ◌∙◌, Option, Some, None}
+use Rattle.std.proofs.Common.{inl, inr, ◌≡◌, ◌⊎◌, Bool, true, false, ◌||◌, List, [], map, refl, ap, sym, subst, ◌∙◌, Option, Some, None}
 use Rattle.std.specs.Prelude.{if◌then◌else◌}
 use Rattle.std.proofs.lemmas.Bool.{or_right}
 use Rattle.mm_label.specs.Fronts.{Apart, Front, IsChild, Label, Le, Lt, Within}
 use Rattle.mm_label.specs.Label.{whole}
 use Rattle.mm_label.specs.Facts.Children.{same_child}
-use Rattle.mm_label.specs.Facts.Fronts.{apart_below, apart_trans, front_antisym, front_cases, front_le, front_refl, front_trans, le_antisym, le_trans, le_total}
+use Rattle.mm_label.specs.Facts.Fronts.{apart_below, apart_trans, front_antisym, front_cases, front_le, front_refl, front_trans, le_antisym}
 use Rattle.mm_label.specs.Facts.Lists.{apart_lt, lt_below}
 use Rattle.mm_label.specs.Facts.Members.{in_within, within_in, within_joined, within_first, within_second}
 use Rattle.mm_label.specs.Facts.Order.{label_same, same_label}

@@ -1,7 +1,7 @@
 -- A tree with new labels.
-use Rattle.std.proofs.Common.{inl, inr, ◌≡◌, ◌&&◌, ◌+◌, ℕ, true, [], refl, ap, sym, subst, ◌∙◌, None, Result, Ok, Err, IfOk, arith}
+use Rattle.std.proofs.Common.{inl, inr, ◌≡◌, ◌+◌, ℕ, true, [], refl, ap, sym, subst, ◌∙◌, None, Result, Ok, Err, IfOk, arith}
 use Rattle.std.proofs.lemmas.Bool.{and_from, and_parts}
-use Rattle.mm_label.specs.Fronts.{Label, Lt, Within}
+use Rattle.mm_label.specs.Fronts.{Label, Lt}
 use Rattle.mm_label.specs.Label.{IsLabel}
 use Rattle.mm_label.specs.Facts.Fronts.{front_le}
 use Rattle.mm_label.specs.Facts.Members.{within_joined}
@@ -15,7 +15,7 @@ use Rattle.mm_tree.specs.Facts.Places.{node_under, preorder_rises}
 use Rattle.mm_tree.specs.Forests.{has_valid_kind}
 use Rattle.mm_tree.specs.Formed.{Formed, node_label}
 use Rattle.mm_tree.specs.Numbering.{Labelled, Numbers, child_label, fits, has_room, node_of, number, number_from}
-use Rattle.mm_tree.specs.Trees.{Tree, Trees, none, node, every, has_some, nodes, one, preorder}
+use Rattle.mm_tree.specs.Trees.{Tree, Trees, none, node, every, nodes, one, preorder}
 use Rattle.mm_tree.specs.Validity.{is_valid_node, is_valid_tree}
 use Rattle.mm_tree.proofs.NumberForm.{number_form, valid_numbered}
 use Rattle.mm_image.specs.Facts.LabelOrder.{Ancestry, ByteOrder}

@@ -1,15 +1,15 @@
 -- The first key from one on and the last one up to it, in the image of a forest.
-use Rattle.std.proofs.Common.{inl, inr, ◌≡◌, ◌⊎◌, ℕ, ◌<◌, Bool, true, false, IsTrue, List, [], ◌∷◌, ◌++◌, map, refl, ap, sym, subst, ◌∙◌, Option, Some, None, append_assoc, append-nil, arith, zero, suc}
+use Rattle.std.proofs.Common.{inl, inr, ◌≡◌, ◌⊎◌, ℕ, ◌<◌, Bool, true, false, IsTrue, List, [], ◌∷◌, ◌++◌, refl, ap, sym, subst, ◌∙◌, Option, Some, None, append_assoc, append-nil, arith, zero, suc}
 use Rattle.std.specs.Ordering.{is_lt}
 use Rattle.std.proofs.lemmas.Grind.{flat_map-append}
 use Rattle.byteorder.specs.Endian.{big_bytes}
 use Rattle.mm_label.specs.Bytes.{bytes_of, rank, spell}
-use Rattle.mm_label.specs.Fronts.{Apart, Front, Label, Le, Lt, Within}
+use Rattle.mm_label.specs.Fronts.{Apart, Label, Le, Lt, Within}
 use Rattle.mm_label.specs.Label.{IsBefore, IsLabel}
-use Rattle.mm_label.specs.Facts.Fronts.{front_cases, front_refl, le_antisym, le_total}
+use Rattle.mm_label.specs.Facts.Fronts.{front_cases, le_antisym, le_total}
 use Rattle.mm_label.specs.Facts.Members.{in_within, within_flat, within_in, within_joined}
 use Rattle.mm_label.specs.Facts.Order.{apart_past, le_before, le_of, lt_before, splits}
-use Rattle.mm_keeper.specs.Entries.{Entries, Entry, below}
+use Rattle.mm_keeper.specs.Entries.{Entry, below}
 use Rattle.mm_tree.specs.Facts.Labels.{node_is_labelled}
 use Rattle.mm_tree.specs.Forests.{is_well_formed}
 use Rattle.mm_tree.specs.Formed.{node_label}

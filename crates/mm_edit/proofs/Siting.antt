@@ -8,7 +8,7 @@ use Rattle.std.proofs.lemmas.Cmp.{tied_itself}
 use Rattle.mm_host.specs.declared.damage.Fault.{Fault}
 use Rattle.mm_label.specs.Between.{IsOrdered}
 use Rattle.mm_label.specs.Bytes.{bytes_of}
-use Rattle.mm_label.specs.Fronts.{Apart, Front, IsChild, Label, Le, Lt, Within}
+use Rattle.mm_label.specs.Fronts.{Apart, Front, IsChild, Label, Le, Lt}
 use Rattle.mm_label.specs.Label.{IsBefore, IsLabel, is_child, last_odd, whole}
 use Rattle.mm_label.specs.Facts.Fronts.{between_front, front_cases, front_le, le_antisym, le_trans}
 use Rattle.mm_label.specs.Facts.Lists.{apart_lt}
@@ -29,7 +29,7 @@ use Rattle.mm_image.specs.Keys.{StandsFor}
 use Rattle.mm_image.specs.Looking.{entry_at}
 use Rattle.mm_image.specs.Facts.Finding.{IsDown, IsUp, down_found, up_found}
 use Rattle.mm_image.specs.Facts.LabelOrder.{Ancestry, ByteOrder}
-use Rattle.mm_edit.specs.Inside.Placing.{BlamesHeld, BlamesKey, FindsChild, IsFirst, IsLast, IsLeft, IsRight, IsUnder, kept_after, kept_before}
+use Rattle.mm_edit.specs.Inside.Placing.{BlamesHeld, BlamesKey, FindsChild, IsLeft, IsRight, IsUnder, kept_after, kept_before}
 use Rattle.mm_edit.proofs.Nearest.{gap_around, labels_of, last_around, left_found, node_found, right_found}
 use Rattle.mm_edit.proofs.Numbers.{blames_more}
 use Rattle.mm_edit.proofs.Seeks.{before_of, before_to, behind_of, behind_to, first_told, last_told, past_of, past_to, top_to, within_of, within_to}

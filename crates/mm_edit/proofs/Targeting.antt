@@ -1,6 +1,6 @@
 -- The target of an insertion, by its first piece, and what the tree to be put in is refused for.
-use Rattle.std.proofs.Common.{inl, inr, ◌≡◌, ◌&&◌, ◌+◌, ◌<◌, ◌≤◌, ℕ, Bool, true, false, not, IsTrue, List, [], ◌∷◌, ◌++◌, refl, ap, sym, subst, ◌∙◌, Option, Some, None, arith}
-use Rattle.std.specs.Prelude.{ℤ, if◌then◌else◌, nat_le, option_map}
+use Rattle.std.proofs.Common.{inl, inr, ◌≡◌, ◌+◌, ◌≤◌, ℕ, Bool, true, false, not, IsTrue, [], ◌++◌, refl, ap, sym, subst, ◌∙◌, Option, Some, None, arith}
+use Rattle.std.specs.Prelude.{if◌then◌else◌, nat_le, option_map}
 use Rattle.std.proofs.lemmas.Bool.Decides.{nat_tests}
 use Rattle.mm_host.specs.declared.damage.Damage.TheVariants as damage
 use Rattle.mm_host.specs.declared.damage.Fault.{Fault}
@@ -33,7 +33,7 @@ use Rattle.mm_image.specs.Subtrees.{IsUndamaged}
 use Rattle.mm_image.specs.Facts.Finding.{IsAt, at_found, same_key}
 use Rattle.mm_image.specs.Facts.LabelOrder.{Ancestry, ByteOrder}
 use Rattle.mm_image.specs.Facts.Members.{chunk_in, listed_label, words_are}
-use Rattle.mm_image.proofs.ChunkFacts.{few_pieces}
+use Rattle.mm_image.specs.Facts.Pieces.{few_pieces}
 use Rattle.mm_image.proofs.Rising.{nodes_of, within_range}
 use Rattle.mm_edit.specs.Inside.Counting.{Blames}
 use Rattle.mm_edit.specs.Inside.Placing.{BlamesHeld, begins_text, is_text_in}

@@ -25,7 +25,8 @@ use Rattle.mm_image.specs.Subtrees.{begins, leading, run_of}
 use Rattle.mm_image.specs.Facts.LabelOrder.{Ancestry, ByteOrder}
 use Rattle.mm_image.specs.Facts.Members.{node_is_valid}
 use Rattle.mm_image.proofs.Rising.{Nodes, entries_rise}
-use Rattle.mm_image.proofs.Standing.{Stands, labelled_formed, stored_label, stored_tree}
+use Rattle.mm_image.specs.Facts.Standing.{Stands}
+use Rattle.mm_image.proofs.Standing.{labelled_formed, stored_label, stored_tree}
 use Rattle.mm_edit.specs.Inside.Changes.{Becomes, change, changes, number_of, words_of}
 use Rattle.mm_edit.specs.Inside.Counting.{count_entry, counts_at}
 use Rattle.mm_edit.proofs.Editing.{Leads, both_numbers, counts_follow, counts_within, part_of}

@@ -59,6 +59,11 @@ edit_fault (Err (error.Fault f)) = Some f
 abbrev pub full_refusal : ℕ → Trees Labelled → Option Refusal
 full_refusal limit after = if nat_lt limit (weight_of (image after)) then Some Full else None
 
+-- the refusal by what place, target and tree tell; or else by the weight of the map afterwards
+abbrev pub or_full : Option Refusal → ℕ → Trees Labelled → Option Refusal
+or_full None limit after = full_refusal limit after
+or_full (Some r) limit after = Some r
+
 -- of a fault this holds
 abbrev pub IfFault : (Fault → Type 0) → EditError → Type 0
 IfFault P (error.Refused r) = Unit {0}

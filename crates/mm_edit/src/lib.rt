@@ -6,6 +6,7 @@ mod changing;
 mod counting;
 mod deleting;
 mod differing;
+mod inserting;
 pub mod laws;
 mod neighbours;
 mod parting;
@@ -19,4 +20,5 @@ mod weighing;
 
 pub use carrying::carry_out;
 pub use deleting::plan_delete;
+pub use inserting::{plan_insert, plan_load, plan_replace};
 pub use plan::{EditError, Plan};

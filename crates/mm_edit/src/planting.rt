@@ -56,6 +56,7 @@ fn planted(alloc: Global, site: &Site, tree: Plain) -> Result<Node, TreeError>
     ensures valid { IfOk result (λ n. IsTrue (every has_valid_kind (one (node_of n)))) }
     ensures fitting { IfOk result (λ n. IsTrue (every has_room (one (node_of n)))) }
     ensures sorted { IfOk result (λ n. IsSorted (entries_of (one (node_of n)))) }
+    ensures nodes { IfOk result (λ n. nodes (one (node_of n)) ≡ nodes (one (tree_of tree))) }
     ensures few { IfOk result (λ n. nodes (one (node_of n)) < 2 ^ 64) }
 {
     let opening = Opening {
@@ -84,6 +85,7 @@ pub fn tree_for_load<K: Keeper, L: Ledger>(
     ensures valid { IfOk result (λ n. IsTrue (every has_valid_kind (one (node_of n)))) }
     ensures fitting { IfOk result (λ n. IsTrue (every has_room (one (node_of n)))) }
     ensures sorted { IfOk result (λ n. IsSorted (entries_of (one (node_of n)))) }
+    ensures nodes { IfOk result (λ n. nodes (one (node_of n)) ≡ nodes (one (tree_of tree))) }
     ensures few { IfOk result (λ n. nodes (one (node_of n)) < 2 ^ 64) }
     ensures ground { SameGround K.over K.has_maps K.tells K.seen K.written K.changes K.moment K.left_since keeper.old keeper.new }
     ensures accounts { Accounts K.is_sound K.is_spent K.fault_count K.want_count keeper.old keeper.new (edit_fault result) }
@@ -156,6 +158,7 @@ pub fn tree_for_insert<K: Keeper, L: Ledger>(
     ensures valid { IfOk result (λ n. IsTrue (every has_valid_kind (one (node_of n)))) }
     ensures fitting { IfOk result (λ n. IsTrue (every has_room (one (node_of n)))) }
     ensures sorted { IfOk result (λ n. IsSorted (entries_of (one (node_of n)))) }
+    ensures nodes { IfOk result (λ n. nodes (one (node_of n)) ≡ nodes (one (tree_of tree))) }
     ensures few { IfOk result (λ n. nodes (one (node_of n)) < 2 ^ 64) }
     ensures ground { SameGround K.over K.has_maps K.tells K.seen K.written K.changes K.moment K.left_since keeper.old keeper.new }
     ensures accounts { Accounts K.is_sound K.is_spent K.fault_count K.want_count keeper.old keeper.new (edit_fault result) }
@@ -174,6 +177,7 @@ pub fn tree_for_replace(alloc: Global, target: &Label, tree: Plain) -> Result<No
     ensures valid { IfOk result (λ n. IsTrue (every has_valid_kind (one (node_of n)))) }
     ensures fitting { IfOk result (λ n. IsTrue (every has_room (one (node_of n)))) }
     ensures sorted { IfOk result (λ n. IsSorted (entries_of (one (node_of n)))) }
+    ensures nodes { IfOk result (λ n. nodes (one (node_of n)) ≡ nodes (one (tree_of tree))) }
     ensures few { IfOk result (λ n. nodes (one (node_of n)) < 2 ^ 64) }
 {
     let _nodes = placed(target.level().saturating_sub(1), &tree)?;

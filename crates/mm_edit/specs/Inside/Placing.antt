@@ -1,5 +1,5 @@
 -- Where a new tree goes, by what single look-ups find.
-use Rattle.std.specs.Prelude.{ℕ, ℤ, ◌≡◌, ◌<◌, ◌^◌, ◌==◌, Bool, false, List, [], ◌∷◌, Option, Some, None, if◌then◌else◌}
+use Rattle.std.specs.Prelude.{ℕ, ◌≡◌, ◌==◌, Bool, false, List, [], ◌∷◌, Option, Some, None, if◌then◌else◌}
 use Rattle.mm_host.specs.declared.damage.Fault.{Fault}
 use Rattle.mm_keeper.specs.Entries.{Entries, Entry}
 use Rattle.mm_label.specs.Fronts.{Apart, Front, IsChild, Label, Le, Within}

@@ -6,7 +6,7 @@ use Rattle.mm_tree.specs.Numbering.{Labelled, node_of}
 use Rattle.mm_tree.specs.Trees.{Tree, none, one}
 use Rattle.mm_image.specs.Image.{image}
 use Rattle.mm_image.specs.Subtrees.{run_of}
-use Rattle.mm_image.proofs.Standing.{stands}
+use Rattle.mm_image.specs.Facts.Standing.{stands}
 use Rattle.mm_edit.specs.Plans.{HasRoomFor}
 use Rattle.mm_edit.specs.Inside.Changes.{Becomes}
 use Rattle.mm_edit.proofs.Editing.{swap_leads}

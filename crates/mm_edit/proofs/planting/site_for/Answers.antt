@@ -1,9 +1,6 @@
-use Rattle.std.proofs.Common.{◌≡◌, ◌∙◌, ◌&&◌, refl, ap, sym, subst, true, false, Bool, None, []}
+use Rattle.std.proofs.Common.{◌∙◌, ◌&&◌, refl, ap, sym, Bool, None, []}
 use Rattle.std.proofs.lemmas.Result.{err_from_is_err_and}
-use Rattle.mm_keeper.specs.Entries.{Entries}
 use Rattle.mm_tree.specs.Edits.{gap, is_inside}
-use Rattle.mm_tree.specs.Numbering.{Labelled}
-use Rattle.mm_tree.specs.Trees.{Trees}
 use Rattle.mm_tree.proofs.EditFacts.{absent_insert, leaf_insert, placed_insert}
 use Rattle.mm_edit.proofs.Targeting.{target_told, unblamed}
 use Rattle.mm_edit.proofs.planting.site_for.Goals as goal

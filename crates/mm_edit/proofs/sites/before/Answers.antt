@@ -1,5 +1,5 @@
-use Rattle.std.proofs.Common.{ap, sym, subst, ◌∙◌}
-use Rattle.std.specs.Prelude.{ℤ, List, Option, Some, IfSome, option_map}
+use Rattle.std.proofs.Common.{sym, subst, ◌∙◌}
+use Rattle.std.specs.Prelude.{ℤ, List, Option, Some, IfSome}
 use Rattle.mm_label.specs.Fronts.{IsChild}
 use Rattle.mm_label.specs.Refusals.{front_of}
 use Rattle.mm_image.specs.Looking.{entry_at}

@@ -1,11 +1,8 @@
 use Rattle.std.proofs.Common.{sym, subst, ◌∙◌}
-use Rattle.std.specs.Prelude.{ℤ, List, None, Option, IfSome, option_map}
+use Rattle.std.specs.Prelude.{ℤ, List, None, Option, IfSome}
 use Rattle.mm_label.specs.Fronts.{IsChild}
 use Rattle.mm_label.specs.Refusals.{front_of}
-use Rattle.mm_image.specs.Looking.{entry_at}
-use Rattle.mm_keeper.specs.Entries.{first_from}
-use Rattle.mm_tree.specs.Gaps.{IsOpen}
-use Rattle.mm_edit.specs.Inside.Placing.{BlamesHeld, FindsChild}
+use Rattle.mm_edit.specs.Inside.Placing.{BlamesHeld}
 use Rattle.mm_edit.proofs.Numbers.{err_told}
 use Rattle.mm_edit.proofs.Siting.{gap_first, open_first, up_blames}
 use Rattle.mm_edit.proofs.sites.first.Goals as goal

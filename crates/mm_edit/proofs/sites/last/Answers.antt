@@ -2,10 +2,7 @@ use Rattle.std.proofs.Common.{sym, subst, ◌∙◌}
 use Rattle.std.specs.Prelude.{ℤ, List, None, Option, IfSome, option_map}
 use Rattle.mm_label.specs.Fronts.{IsChild}
 use Rattle.mm_label.specs.Refusals.{front_of}
-use Rattle.mm_image.specs.Looking.{entry_at}
-use Rattle.mm_keeper.specs.Entries.{last_to}
-use Rattle.mm_tree.specs.Gaps.{IsOpen}
-use Rattle.mm_edit.specs.Inside.Placing.{BlamesHeld, FindsChild}
+use Rattle.mm_edit.specs.Inside.Placing.{BlamesHeld}
 use Rattle.mm_edit.proofs.Numbers.{err_told}
 use Rattle.mm_edit.proofs.Siting.{down_blames, gap_last, gap_top, open_last}
 use Rattle.mm_edit.proofs.sites.last.Goals as goal
