@@ -1,3 +1,4 @@
+pub mod Blaming
 pub mod Keys
 pub mod Lookups
 pub mod Filters

@@ -10,7 +10,8 @@ use Rattle.mm_keeper.specs.Facts.Keys.{lookup-at}
 use Rattle.mm_image.specs.Keys.{count_key}
 use Rattle.mm_edit.specs.declared.changing.WordChange.{WordChange}
 use Rattle.mm_edit.specs.Difference.{Key}
-use Rattle.mm_edit.specs.Inside.Counting.{Blames, BlamesCount, BlamesCounts, BlamesNumber, TellsNumber, number_held, number_in}
+use Rattle.mm_edit.specs.Blame.{Blames}
+use Rattle.mm_edit.specs.Inside.Counting.{BlamesCount, BlamesCounts, BlamesNumber, TellsNumber, number_held, number_in}
 use Rattle.mm_edit.proofs.Halving.{at_rank, chosen}
 use Rattle.mm_edit.proofs.Keys.{same}
 

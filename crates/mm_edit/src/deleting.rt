@@ -6,8 +6,9 @@ ghost use Rattle.mm_image.specs.Image.{image};
 ghost use Rattle.mm_tree.specs.Edits.{delete, delete_refusal, subtree_size};
 ghost use Rattle.mm_tree.specs.Numbering.{Labelled};
 ghost use Rattle.mm_tree.specs.Trees.{Trees};
+ghost use Rattle.mm_edit.specs.Blame.{BlamesTarget};
 ghost use Rattle.mm_edit.specs.Difference.{IsDifference};
-ghost use Rattle.mm_edit.specs.Plans.{HasRoomFor, IsRefusedBy, edit_fault};
+ghost use Rattle.mm_edit.specs.Plans.{HasRoomFor, IfFault, IsRefusedBy, edit_fault};
 
 use crate::plan::{EditError, Plan};
 use crate::taking_out::plan_without;
@@ -36,6 +37,7 @@ pub fn plan_delete<K: Keeper, L: Ledger>(
     ensures label { IfOk result (λ p. p.done.label ≡ target.now) }
     ensures nodes { (f : Trees Labelled) → HoldsImage K.has_maps K.seen keeper.old f → IfOk result (λ p. p.done.nodes ≡ min (subtree_size target.now f) (2 ^ 64 - 1)) }
     ensures room { K.has_maps keeper.old → IfOk result (λ p. HasRoomFor (K.seen keeper.old).now p) }
+    ensures damaged { K.has_maps keeper.old → IfErr result (IfFault (BlamesTarget target.now (K.seen keeper.old).now)) }
     ensures ground { SameGround K.over K.has_maps K.tells K.seen K.written K.changes K.moment K.left_since keeper.old keeper.new }
     ensures accounts { Accounts K.is_sound K.is_spent K.fault_count K.want_count keeper.old keeper.new (edit_fault result) }
     ensures cost { (f : Trees Labelled) → HoldsImage K.has_maps K.seen keeper.old f → steps.new ≤ steps.old + 4 * (length (image f) + length (image (delete target.now f)) + 1) }

@@ -9,8 +9,9 @@ ghost use Rattle.mm_tree.specs.Forests.{load, load_refusal, next_label};
 ghost use Rattle.mm_tree.specs.Numbering.{Labelled};
 ghost use Rattle.mm_tree.specs.Trees.{Trees, nodes, one, tree_of};
 ghost use Rattle.mm_tree.specs.Validity.{is_valid_tree};
+ghost use Rattle.mm_edit.specs.Blame.{Blames, BlamesTarget, IsUnreadable};
 ghost use Rattle.mm_edit.specs.Difference.{IsDifference};
-ghost use Rattle.mm_edit.specs.Plans.{HasRoomFor, IsRefusedBy, edit_fault, or_full};
+ghost use Rattle.mm_edit.specs.Plans.{HasRoomFor, IfFault, IsRefusedBy, edit_fault, or_full};
 
 use crate::plan::{EditError, Plan};
 use crate::planting::{tree_for_insert, tree_for_load, tree_for_replace};
@@ -45,6 +46,7 @@ pub fn plan_load<K: Keeper, L: Ledger>(
     ensures label { (f : Trees Labelled) → HoldsImage K.has_maps K.seen keeper.old f → IfOk result (λ p. p.done.label ≡ next_label f) }
     ensures nodes { IfOk result (λ p. p.done.nodes ≡ nodes (one (tree_of tree))) }
     ensures room { K.has_maps keeper.old → IfOk result (λ p. HasRoomFor (K.seen keeper.old).now p) }
+    ensures damaged { K.has_maps keeper.old → IfErr result (IfFault (Blames (IsUnreadable (K.seen keeper.old).now))) }
     ensures ground { SameGround K.over K.has_maps K.tells K.seen K.written K.changes K.moment K.left_since keeper.old keeper.new }
     ensures accounts { Accounts K.is_sound K.is_spent K.fault_count K.want_count keeper.old keeper.new (edit_fault result) }
     ensures cost { (f : Trees Labelled) → HoldsImage K.has_maps K.seen keeper.old f → steps.new ≤ steps.old + 4 * (length (image f) + length (image (load (tree_of tree) f)) + 1) }
@@ -80,6 +82,7 @@ pub fn plan_insert<K: Keeper, L: Ledger>(
     ensures label { (f : Trees Labelled) → HoldsImage K.has_maps K.seen keeper.old f → IfOk result (λ p. p.done.label ≡ inserted_label place target.now f) }
     ensures nodes { IfOk result (λ p. p.done.nodes ≡ nodes (one (tree_of tree))) }
     ensures room { K.has_maps keeper.old → IfOk result (λ p. HasRoomFor (K.seen keeper.old).now p) }
+    ensures damaged { K.has_maps keeper.old → IfErr result (IfFault (Blames (IsUnreadable (K.seen keeper.old).now))) }
     ensures ground { SameGround K.over K.has_maps K.tells K.seen K.written K.changes K.moment K.left_since keeper.old keeper.new }
     ensures accounts { Accounts K.is_sound K.is_spent K.fault_count K.want_count keeper.old keeper.new (edit_fault result) }
     ensures cost { (f : Trees Labelled) → HoldsImage K.has_maps K.seen keeper.old f → steps.new ≤ steps.old + 4 * (length (image f) + length (image (insert place target.now (tree_of tree) f)) + 1) }
@@ -114,6 +117,7 @@ pub fn plan_replace<K: Keeper, L: Ledger>(
     ensures label { IfOk result (λ p. p.done.label ≡ target.now) }
     ensures nodes { IfOk result (λ p. p.done.nodes ≡ nodes (one (tree_of tree))) }
     ensures room { K.has_maps keeper.old → IfOk result (λ p. HasRoomFor (K.seen keeper.old).now p) }
+    ensures damaged { K.has_maps keeper.old → IfErr result (IfFault (BlamesTarget target.now (K.seen keeper.old).now)) }
     ensures ground { SameGround K.over K.has_maps K.tells K.seen K.written K.changes K.moment K.left_since keeper.old keeper.new }
     ensures accounts { Accounts K.is_sound K.is_spent K.fault_count K.want_count keeper.old keeper.new (edit_fault result) }
     ensures cost { (f : Trees Labelled) → HoldsImage K.has_maps K.seen keeper.old f → steps.new ≤ steps.old + 4 * (length (image f) + length (image (replace target.now (tree_of tree) f)) + 1) }

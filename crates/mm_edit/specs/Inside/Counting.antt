@@ -1,13 +1,13 @@
 -- The counts of some words, as entries.
 use Rattle.std.specs.Prelude.{ℕ, ◌+◌, ◌-◌, ◌^◌, ◌≡◌, min, List, [], ◌∷◌, Option, Some, None, flat_map, map, if◌then◌else◌, nat_lt, ⊤}
 use Rattle.byteorder.specs.Endian.{big_bytes}
-use Rattle.mm_host.specs.declared.damage.Damage.TheVariants as damage
 use Rattle.mm_host.specs.declared.damage.Fault.{Fault}
 use Rattle.mm_host.specs.declared.damage.Fault.TheVariants as fault
 use Rattle.mm_label.specs.Fronts.{Within}
 use Rattle.mm_keeper.specs.Entries.{Entries, Entry, lookup}
 use Rattle.mm_image.specs.Content.{count_in}
 use Rattle.mm_image.specs.Keys.{count_key}
+use Rattle.mm_edit.specs.Blame.{Blames}
 use Rattle.mm_edit.specs.declared.changing.WordChange.{WordChange}
 
 -- the entry of a word's count, where it isn't 0
@@ -49,18 +49,6 @@ counts_left m ts = flat_map (λ t. count_entry t.word (number_after (held m t.wo
 -- each of these words' counts tells its number
 abbrev pub AreTold : Entries → List WordChange → Type 0
 AreTold m ts = map (λ t. number_held m t.word) ts ≡ map (λ t. Some (held m t.word)) ts
-
--- where it is damage, it is that of this key, and so
-abbrev pub Blames : (List ℕ → Type 0) → Fault → Type 0
-Blames P (fault.Damaged (damage.Key key)) = P key
-Blames P (fault.Damaged (damage.Cut place at needed held)) = ⊥
-Blames P (fault.Damaged (damage.Digest at stored found)) = ⊥
-Blames P (fault.Damaged (damage.Sort at stored due)) = ⊥
-Blames P (fault.Damaged (damage.Size at stored least most)) = ⊥
-Blames P (fault.Damaged (damage.Page page why stored due)) = ⊥
-Blames P fault.DiskFault = ⊤
-Blames P fault.Spent = ⊤
-Blames P fault.Memory = ⊤
 
 -- it is no damage
 abbrev pub IsUndamaged : Fault → Type 0

@@ -6,7 +6,7 @@ use Rattle.mm_label.specs.Fronts.{Apart, Front, IsChild, Label, Le, Within}
 use Rattle.mm_label.specs.Label.{IsLabel}
 use Rattle.mm_tree.specs.Forests.{is_before}
 use Rattle.mm_image.specs.Keys.{StandsFor, chunk_key}
-use Rattle.mm_edit.specs.Inside.Counting.{Blames}
+use Rattle.mm_edit.specs.Blame.{Blames}
 
 -- ---- what an entry that was found tells
 

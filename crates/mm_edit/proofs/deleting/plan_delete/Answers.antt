@@ -1,13 +1,16 @@
-use Rattle.std.proofs.Common.{◌≤◌, ◌∙◌, ap, sym, subst, Option}
+use Rattle.std.proofs.Common.{inl, inr, ◌≤◌, ◌∙◌, ap, sym, subst, Option}
 use Rattle.std.specs.Prelude.{option_map, min, ◌^◌, ◌-◌, length}
 use Rattle.mm_keeper.specs.Entries.{Entries}
+use Rattle.mm_keeper.specs.Keeping.{Seen}
 use Rattle.mm_tree.specs.Edits.{delete, size_of}
 use Rattle.mm_tree.specs.Numbering.{Labelled, node_of}
 use Rattle.mm_tree.specs.Trees.{Tree, none, one}
 use Rattle.mm_image.specs.Image.{image}
 use Rattle.mm_image.specs.Subtrees.{run_of}
 use Rattle.mm_image.specs.Facts.Standing.{stands}
+use Rattle.mm_edit.specs.Blame.{BlamesTarget}
 use Rattle.mm_edit.specs.Plans.{HasRoomFor}
+use Rattle.mm_edit.proofs.Blaming.{counts}
 use Rattle.mm_edit.specs.Inside.Changes.{Becomes}
 use Rattle.mm_edit.proofs.Editing.{swap_leads}
 use Rattle.mm_edit.proofs.Targets.{accepted, delete_cost, read_cost, refused, run_few, standing_rises, words_few}
@@ -78,3 +81,12 @@ returns-clause-cost g c = λ f s.
 
 pub returns-in-Ok-None-clause-refused : goal.returns-in-Ok-None-clause-refused
 returns-in-Ok-None-clause-refused g c = λ f s. refused c.args.target.now f (sym (c.in-Ok-None.ensures.image f s) ∙ ap (option_map node_of) c.in-Ok-None.field-0-is)
+
+pub returns-in-Ok-Some-clause-damaged : goal.returns-in-Ok-Some-clause-damaged
+returns-in-Ok-Some-clause-damaged g c = λ maps.
+    let ground = c.subtree.ensures.ground in
+    let m = (g.K.Keeper.seen c.subtree.new.keeper).now in
+    subst (λ (z : Seen g.row.K-Spot.Denot). BlamesTarget c.args.target.now z.now c.in-Err-plan_without.fault) (ground.same maps) (inl (counts m _ c.in-Err-plan_without.fault (c.in-Err-plan_without.ensures.damaged (ground.maps.0 maps))))
+
+pub returns-clause-damaged : goal.returns-clause-damaged
+returns-clause-damaged g c = λ maps. inr (c.in-Err.ensures.damaged maps)

@@ -6,7 +6,9 @@ use Rattle.mm_tree.specs.Forests.{load, load_refusal}
 use Rattle.mm_tree.specs.Numbering.{node_of}
 use Rattle.mm_tree.specs.Trees.{none, one, tree_of}
 use Rattle.mm_image.specs.Image.{image}
-use Rattle.mm_edit.specs.Plans.{HasRoomFor, IsRefusedBy, or_full}
+use Rattle.mm_edit.specs.Blame.{Blames, IsUnreadable}
+use Rattle.mm_edit.specs.Plans.{HasRoomFor, IfFault, IsRefusedBy, or_full}
+use Rattle.mm_edit.proofs.Blaming.{counts_blamed, found_blamed}
 use Rattle.mm_edit.proofs.Editing.{swap_leads}
 use Rattle.mm_edit.proofs.Coming.{load_becomes, on_ok_so, or_refused, put_cost}
 use Rattle.mm_edit.proofs.Targets.{words_few}
@@ -59,3 +61,13 @@ returns-in_err-node-clause-refused g c = λ f s.
     let t = tree_of c.args.tree in
     let p = err_from_is_err_and c.from_residual.result c.from_residual.ensures.1 in
     rw (p.1, p.2) (or_refused (load_refusal t f) c.args.limit (load t f) c.in_err-node.field-0.0 (c.in_err-node.ensures.refused f s))
+
+pub returns-clause-damaged : goal.returns-clause-damaged
+returns-clause-damaged g c = λ maps.
+    let ground = c.tree_for_load.ensures.ground in
+    subst (λ (z : Seen g.row.K-Spot.Denot). IfErr c.plan_with.result (IfFault (Blames (IsUnreadable z.now)))) (ground.same maps) (counts_blamed _ _ c.plan_with.result (c.plan_with.ensures.damaged (ground.maps.0 maps)))
+
+pub returns-in_err-node-clause-damaged : goal.returns-in_err-node-clause-damaged
+returns-in_err-node-clause-damaged g c = λ maps.
+    let p = err_from_is_err_and c.from_residual.result c.from_residual.ensures.1 in
+    rw (p.1, p.2) (found_blamed _ c.in_err-node.field-0.0 (c.in_err-node.ensures.damaged maps))

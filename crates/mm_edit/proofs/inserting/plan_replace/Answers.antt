@@ -1,4 +1,4 @@
-use Rattle.std.proofs.Common.{◌≤◌, ◌∙◌, ap, arith, length, subst, sym, IfErr, IfOk, Option}
+use Rattle.std.proofs.Common.{inr, ◌≤◌, ◌∙◌, ap, arith, length, subst, sym, IfErr, IfOk, Option}
 use Rattle.std.specs.Prelude.{option_map}
 use Rattle.std.proofs.lemmas.Result.{err_from_is_err_and}
 use Rattle.mm_keeper.specs.Entries.{Entries, IsSorted}
@@ -15,7 +15,9 @@ use Rattle.mm_image.specs.Image.{entries_of, image}
 use Rattle.mm_image.specs.Subtrees.{run_of}
 use Rattle.mm_image.specs.Facts.Standing.{stands}
 use Rattle.mm_edit.specs.Inside.Changes.{Becomes, changes}
-use Rattle.mm_edit.specs.Plans.{HasRoomFor, IsRefusedBy, of_tree, or_full}
+use Rattle.mm_edit.specs.Blame.{BlamesTarget}
+use Rattle.mm_edit.specs.Plans.{HasRoomFor, IfFault, IsRefusedBy, of_tree, or_full}
+use Rattle.mm_edit.proofs.Blaming.{at_target, counts_blamed, tree_blamed}
 use Rattle.mm_edit.proofs.Coming.{on_ok_so, or_refused, replace_becomes, replaced_absent, replaced_as}
 use Rattle.mm_edit.proofs.Editing.{swap_leads}
 use Rattle.mm_edit.proofs.Targeting.{refused_so}
@@ -167,3 +169,19 @@ returns-in-None-clause-early g c = λ f s n.
     let m = (g.K.Keeper.seen c.args.keeper.now).now in
     let few = subst (λ (z : Entries). length (run_of x m) ≤ length z) s.2 (run_few x m) in
     omega (arith, c.subtree.ensures.cost s.0, few)
+
+pub returns-in_err-taken-clause-damaged : goal.returns-in_err-taken-clause-damaged
+returns-in_err-taken-clause-damaged g c = λ maps.
+    let p = err_from_is_err_and c.from_residual.result c.from_residual.ensures.1 in
+    rw (p.1, p.2) (inr (c.in_err-taken.ensures.damaged maps))
+
+pub returns-in_err-node-in-Some-clause-damaged : goal.returns-in_err-node-in-Some-clause-damaged
+returns-in_err-node-in-Some-clause-damaged g c = λ maps.
+    let p = err_from_is_err_and c.from_residual-in_err-node-in-Some.result c.from_residual-in_err-node-in-Some.ensures.1 in
+    rw (p.1, p.2) (tree_blamed c.args.target.now _ c.in_err-node-in-Some.field-0.0)
+
+pub returns-in_ok-node-in-Some-clause-damaged : goal.returns-in_ok-node-in-Some-clause-damaged
+returns-in_ok-node-in-Some-clause-damaged g c = λ maps.
+    let ground = c.subtree.ensures.ground in
+    subst (λ (z : Seen g.row.K-Spot.Denot). IfErr c.plan_with.result (IfFault (BlamesTarget c.args.target.now z.now))) (ground.same maps)
+    (at_target c.args.target.now _ c.plan_with.result (counts_blamed _ _ c.plan_with.result (c.plan_with.ensures.damaged (ground.maps.0 maps))))
