@@ -41,6 +41,7 @@ pub fn plan_delete<K: Keeper, L: Ledger>(
     ensures ground { SameGround K.over K.has_maps K.tells K.seen K.written K.changes K.moment K.left_since keeper.old keeper.new }
     ensures accounts { Accounts K.is_sound K.is_spent K.fault_count K.want_count keeper.old keeper.new (edit_fault result) }
     ensures cost { (f : Trees Labelled) → HoldsImage K.has_maps K.seen keeper.old f → steps.new ≤ steps.old + 4 * (length (image f) + length (image (delete target.now f)) + 1) }
+    ensures early { (f : Trees Labelled) → HoldsImage K.has_maps K.seen keeper.old f → (delete_refusal target.now f ≡ None → ⊥) → steps.new ≤ steps.old + length (image f) + 1 }
 {
     byte_order();
     ancestry();

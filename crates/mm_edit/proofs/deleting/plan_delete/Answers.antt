@@ -1,4 +1,4 @@
-use Rattle.std.proofs.Common.{inl, inr, ◌≤◌, ◌∙◌, ap, sym, subst, Option}
+use Rattle.std.proofs.Common.{arith, inl, inr, ◌≤◌, ◌∙◌, ap, sym, subst, Option}
 use Rattle.std.specs.Prelude.{option_map, min, ◌^◌, ◌-◌, length}
 use Rattle.mm_keeper.specs.Entries.{Entries}
 use Rattle.mm_keeper.specs.Keeping.{Seen}
@@ -90,3 +90,23 @@ returns-in-Ok-Some-clause-damaged g c = λ maps.
 
 pub returns-clause-damaged : goal.returns-clause-damaged
 returns-clause-damaged g c = λ maps. inr (c.in-Err.ensures.damaged maps)
+
+pub returns-in-Ok-clause-early : goal.returns-in-Ok-clause-early
+returns-in-Ok-clause-early g c = λ f s n. absurd (n (accepted c.args.target.now f (node_of c.in-Ok-Some.node) (sym (c.in-Ok-Some.ensures.image f s) ∙ ap (option_map node_of) c.in-Ok-Some.field-0-is)))
+
+pub returns-in-Ok-Some-clause-early : goal.returns-in-Ok-Some-clause-early
+returns-in-Ok-Some-clause-early g c = λ f s n. absurd (n (accepted c.args.target.now f (node_of c.in-Ok-Some.node) (sym (c.in-Ok-Some.ensures.image f s) ∙ ap (option_map node_of) c.in-Ok-Some.field-0-is)))
+
+pub returns-in-Ok-None-clause-early : goal.returns-in-Ok-None-clause-early
+returns-in-Ok-None-clause-early g c = λ f s n.
+    let x = c.args.target.now in
+    let m = (g.K.Keeper.seen c.args.keeper.now).now in
+    let few = subst (λ (z : Entries). length (run_of x m) ≤ length z) s.2 (run_few x m) in
+    omega (arith, c.subtree.ensures.cost s.0, few)
+
+pub returns-clause-early : goal.returns-clause-early
+returns-clause-early g c = λ f s n.
+    let x = c.args.target.now in
+    let m = (g.K.Keeper.seen c.args.keeper.now).now in
+    let few = subst (λ (z : Entries). length (run_of x m) ≤ length z) s.2 (run_few x m) in
+    omega (arith, c.subtree.ensures.cost s.0, few)
