@@ -1,5 +1,5 @@
 -- The nodes that have the labels that a search finds.
-use Rattle.std.proofs.Common.{inl, inr, ◌≡◌, ◌⊎◌, ℕ, ℤ, Bool, true, false, cond, ◌||◌, List, [], ◌∷◌, ◌++◌, refl, ap, sym, subst, Some}
+use Rattle.std.proofs.Common.{inl, inr, ◌≡◌, ℕ, ℤ, Bool, true, false, cond, ◌||◌, List, [], ◌∷◌, ◌++◌, refl, ap, sym, subst, Some}
 use Rattle.std.proofs.lemmas.Bool.{or_right}
 use Rattle.mm_label.specs.Fronts.{Within}
 use Rattle.mm_label.specs.Facts.Members.{contains_of, within_joined, within_of}

@@ -1,5 +1,5 @@
 -- The hits of the first labels, and of one more.
-use Rattle.std.proofs.Common.{◌≡◌, ℕ, ℤ, ◌+◌, ◌<◌, List, [], ◌∷◌, ◌++◌, length, take, refl, ap, ap₂, sym, ◌∙◌, Some, get_or}
+use Rattle.std.proofs.Common.{◌≡◌, ℕ, ℤ, ◌+◌, ◌<◌, List, [], ◌∷◌, ◌++◌, length, take, ap, ap₂, sym, ◌∙◌, Some, get_or}
 use Rattle.std.proofs.lemmas.List.{map-append}
 use Rattle.mm_tree.specs.declared.hit.Hit.{Hit}
 use Rattle.mm_tree.specs.Edits.{found}

@@ -1,5 +1,5 @@
 -- What the labels that a search finds tell, and refusals.
-use Rattle.std.proofs.Common.{◌≡◌, ℕ, ℤ, List, ap, sym, subst, ◌∙◌, Some, Result, Ok, Err, IfErr, inl, inr}
+use Rattle.std.proofs.Common.{◌≡◌, ℕ, ℤ, List, sym, subst, Result, Ok, Err, IfErr}
 use Rattle.std.specs.Prelude.{AllPairs, IsTrue}
 use Rattle.mm_host.specs.declared.damage.Fault.{Fault}
 use Rattle.mm_host.specs.declared.damage.Fault.TheVariants.{DiskFault, Damaged, Spent, Memory}

@@ -1,3 +1,5 @@
 pub mod Answers
+pub mod Applying
+pub mod Editing
 pub mod Shown
 pub mod Inside

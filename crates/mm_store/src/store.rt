@@ -1,18 +1,21 @@
 //! The store: a keeper and a limit on its weight.
 
-ghost use Rattle.std.specs.Prelude.{◌≡◌, ◌+◌, ◌*◌, ◌≤◌, ◌^◌, ◌⊎◌, Some, [], false, true, IfOk, IfErr, IsErrOf, OnErr, length, map};
+ghost use Rattle.std.specs.Prelude.{◌≡◌, ◌+◌, ◌*◌, ◌≤◌, ◌^◌, ◌⊎◌, Some, None, [], false, true, IfOk, IfErr, IsErrOf, OnOk, OnErr, length, map};
 ghost use Rattle.mm_elca.specs.Bound as elca;
 ghost use Rattle.mm_fragment.specs.Stored.{IsDamageBelow};
 ghost use Rattle.mm_host.specs.Causes.{Rose};
 ghost use Rattle.mm_host.specs.Moments.{LeavesOnly};
 ghost use Rattle.mm_host.specs.declared.damage.Fault.TheVariants as fault;
 ghost use Rattle.mm_image.specs.Ground.{Accounts, HoldsImage, SameGround};
+ghost use Rattle.mm_image.specs.Image.{image};
 ghost use Rattle.mm_image.specs.Subtrees.{NamesKey, at_or_below, run_of};
 ghost use Rattle.mm_keeper.specs.Entries.{weight_of};
 ghost use Rattle.mm_keeper.specs.Keeping.{Keeps, fault_of};
 ghost use Rattle.mm_lists.specs.Causes.{BlamesOnly, Caused, IsSound};
 ghost use Rattle.mm_slca.specs.Bound as slca;
-ghost use Rattle.mm_store.specs.Answers.{IsAbsent, OnFault, store_fault};
+ghost use Rattle.mm_store.specs.Answers.{IsAbsent, IsRefusedWith, OnFault, OnRefusal, store_fault};
+ghost use Rattle.mm_store.specs.Applying.{Performs, differing};
+ghost use Rattle.mm_store.specs.Editing.{EditBlames, IsValidEdit, early_refusal, edit_refusal, edited, edited_label, edited_nodes};
 ghost use Rattle.mm_fragment.specs.Showing.{fragments_of};
 ghost use Rattle.mm_store.specs.Shown.{fragments_cost};
 ghost use Rattle.mm_tree.specs.Edits.{found};
@@ -23,17 +26,21 @@ ghost use Rattle.mm_tree.specs.Numbering.{Labelled, node_of};
 ghost use Rattle.mm_tree.specs.Search.{lists_of, slca, worded};
 ghost use Rattle.mm_tree.specs.Trees.{Trees};
 
+use crate::applying::{done_of, perform};
+use crate::edit::{Edit, plan};
 use crate::fragments::fragments_of;
 use crate::hits::hits_of;
 use crate::roots::{exclusive, smallest};
+use mm_edit::EditError;
 use mm_fragment::laws::answers_tell;
 use mm_host::Fault;
+use mm_image::laws::images_rise;
 use mm_image::subtree;
 use mm_keeper::Keeper;
 use mm_label::Label;
 use mm_steps::Steps;
-use mm_tree::laws::{answers_are_smallest, exclusive_answers};
-use mm_tree::{Fragments, Hits, Node, Refusal};
+use mm_tree::laws::{answers_are_smallest, edits_stay_formed, exclusive_answers};
+use mm_tree::{Done, Fragments, Hits, Node, Refusal};
 use mm_words::Query;
 use std::alloc::Global;
 use std::sync::ledger::Ledger;
@@ -69,6 +76,56 @@ impl<K: Keeper> Store<K> {
             alloc,
             keeper,
             limit,
+        }
+    }
+
+    /// Plans the edit, carries it out and commits it. It is refused by the first cause against it, and then nothing
+    /// is changed; after a fault of its plan neither. After a later fault the keeper is spent, and a crash leaves the
+    /// forest before it or after it.
+    pub fn apply<L: Ledger>(&mut self, edit: Edit, steps: &mut Steps<L>) -> Result<Done, StoreError>
+        requires { IsValidEdit edit }
+
+        // Whether it is refused.
+        ensures accepted { (f : Trees Labelled) → HoldsImage K.has_maps K.seen self.old.keeper f → OnOk result (edit_refusal self.old.limit edit f ≡ None) }
+        ensures refused { (f : Trees Labelled) → HoldsImage K.has_maps K.seen self.old.keeper f → IfErr result (IsRefusedWith (edit_refusal self.old.limit edit f)) }
+        ensures damaged { K.has_maps self.old.keeper → IfErr result (OnFault (EditBlames edit (K.seen self.old.keeper).now)) }
+
+        // Where nothing is changed.
+        ensures unchanged { IfErr result (OnRefusal (SameGround K.over K.has_maps K.tells K.seen K.written K.changes K.moment K.left_since self.old.keeper self.new.keeper)) }
+        ensures stays { (f : Trees Labelled) → HoldsImage K.has_maps K.seen self.old.keeper f → (edit_refusal self.old.limit edit f ≡ None → ⊥)
+            → SameGround K.over K.has_maps K.tells K.seen K.written K.changes K.moment K.left_since self.old.keeper self.new.keeper }
+        ensures broke_off { K.has_maps self.old.keeper → OnErr result (SameGround K.over K.has_maps K.tells K.seen K.written K.changes K.moment K.left_since self.old.keeper self.new.keeper ⊎ (K.is_spent self.new.keeper ≡ true)) }
+
+        // What it did.
+        ensures label { (f : Trees Labelled) → HoldsImage K.has_maps K.seen self.old.keeper f → IfOk result (λ d. d.label ≡ edited_label edit f) }
+        ensures nodes { (f : Trees Labelled) → HoldsImage K.has_maps K.seen self.old.keeper f → IfOk result (λ d. d.nodes ≡ edited_nodes edit f) }
+        ensures now { (f : Trees Labelled) → HoldsImage K.has_maps K.seen self.old.keeper f → OnOk result (HoldsImage K.has_maps K.seen self.new.keeper (edited edit f)) }
+        ensures kept { (f : Trees Labelled) → HoldsImage K.has_maps K.seen self.old.keeper f → OnOk result ((K.seen self.new.keeper).kept ≡ image (edited edit f)) }
+        ensures any_moment { (f : Trees Labelled) → HoldsImage K.has_maps K.seen self.old.keeper f → K.is_spent self.old.keeper ≡ false → (K.seen self.old.keeper).kept ≡ image f
+            → LeavesOnly K.moment K.left_since self.old.keeper self.new.keeper (λ m. (m ≡ Some (image f)) ⊎ (m ≡ Some (image (edited edit f)))) }
+        ensures journal { (f : Trees Labelled) → HoldsImage K.has_maps K.seen self.old.keeper f → K.tells
+            → (K.written self.new.keeper).journal ≤ (K.written self.old.keeper).journal + 4200 * (8 * (K.changes self.old.keeper + differing (image f) (image (edited edit f))) + 2) }
+        ensures none_left { K.tells → OnOk result (K.changes self.new.keeper ≡ 0) }
+
+        // Whatever it answers.
+        ensures performs { Performs K.over K.has_maps K.is_sound K.is_spent K.fault_count K.want_count self.old.keeper self.new.keeper (store_fault result) }
+        ensures unspent { OnOk result (K.is_spent self.old.keeper ≡ false) }
+        ensures limit { self.new.limit ≡ self.old.limit }
+        ensures cost { (f : Trees Labelled) → HoldsImage K.has_maps K.seen self.old.keeper f → steps.new ≤ steps.old + 8 * (length (image f) + length (image (edited edit f)) + 1) }
+        ensures early { (f : Trees Labelled) → HoldsImage K.has_maps K.seen self.old.keeper f → (early_refusal edit f ≡ None → ⊥) → steps.new ≤ steps.old + length (image f) + 2 }
+    {
+        edits_stay_formed();
+        images_rise();
+        match plan(self.alloc, edit, self.limit, &mut self.keeper, steps) {
+            Ok(plan) => match done_of(self.alloc, &plan) {
+                Ok(done) => match perform(&plan, &mut self.keeper, steps) {
+                    Ok(()) => Ok(done),
+                    Err(fault) => Err(StoreError::Fault(fault)),
+                },
+                Err(_) => Err(StoreError::Fault(Fault::Memory)),
+            },
+            Err(EditError::Refused(refusal)) => Err(StoreError::Refused(refusal)),
+            Err(EditError::Fault(fault)) => Err(StoreError::Fault(fault)),
         }
     }
 
