@@ -2,8 +2,8 @@
 
 ghost use Rattle.std.specs.Prelude.{◌≡◌, ◌<◌};
 
-use crate::documents::{BIBLIOGRAPHY, NOTES, copies, have_texts};
-use crate::stored::stored_answers;
+use mm_examples::documents::{copies, have_texts};
+use mm_examples::searches::{Case, TABLE};
 use mm_host::Fault;
 use mm_label::Label;
 use mm_list::Items;
@@ -66,74 +66,14 @@ fn exclusive_are(
     Ok(plain.as_slice() == fast.as_slice() && have_texts(alloc, fast.as_slice(), due)?)
 }
 
-/// Whether both searches over a keeper's entries find what is due.
-fn stored_are(
-    alloc: Global,
-    forest: &Forest,
-    query: &Query,
-    smallest: &[&str],
-    exclusive: &[&str],
-) -> Result<bool, Fail> {
-    let (low, own) = stored_answers::<Brand>(alloc, Blank::new(1), forest, query)?;
-    Ok(
-        have_texts(alloc, low.as_slice(), smallest)?
-            && have_texts(alloc, own.as_slice(), exclusive)?,
-    )
-}
-
-/// So many copies of a document, a query, the labels of its smallest answers and those of its exclusive ones.
-type Case = (
-    &'static str,
-    u8,
-    &'static str,
-    &'static [&'static str],
-    &'static [&'static str],
-);
-
-const TABLE: [Case; 8] = [
-    (BIBLIOGRAPHY, 0, "liu", &[], &[]),
-    (BIBLIOGRAPHY, 1, "liu chen", &["1"], &["1"]),
-    (BIBLIOGRAPHY, 1, "absent liu", &[], &[]),
-    (
-        BIBLIOGRAPHY,
-        2,
-        "title author",
-        &["1.1", "1.3", "3.1", "3.3"],
-        &["1.1", "1.3", "3.1", "3.3"],
-    ),
-    (
-        BIBLIOGRAPHY,
-        3,
-        "chen keyword",
-        &["1.3", "3.3", "5.3"],
-        &["1.3", "3.3", "5.3"],
-    ),
-    (NOTES, 1, "xml liu", &["1.1.1"], &["1", "1.1.1"]),
-    (
-        NOTES,
-        2,
-        "xml",
-        &["1.1.1", "1.3.1", "3.1.1", "3.3.1"],
-        &["1.1.1", "1.3.1", "3.1.1", "3.3.1"],
-    ),
-    (
-        NOTES,
-        3,
-        "book liu",
-        &["1.1", "3.1", "5.1"],
-        &["1.1", "3.1", "5.1"],
-    ),
-];
-
-/// Whether all six searches find what is due.
+/// Whether all four searches find what is due.
 fn agrees(alloc: Global, case: &Case) -> Result<bool, Fail> {
     let (document, times, text, smallest, exclusive) = *case;
     let forest = copies(alloc, document, times)?;
     let query = query(alloc, text)?;
     Ok(
         smallest_are(alloc, &forest, &query, smallest)?
-            && exclusive_are(alloc, &forest, &query, exclusive)?
-            && stored_are(alloc, &forest, &query, smallest, exclusive)?,
+            && exclusive_are(alloc, &forest, &query, exclusive)?,
     )
 }
 

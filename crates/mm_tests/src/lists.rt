@@ -2,7 +2,7 @@
 
 ghost use Rattle.std.specs.Prelude.{◌≡◌, ◌<◌};
 
-use crate::documents::{BIBLIOGRAPHY, copies, has_text};
+use mm_examples::documents::{BIBLIOGRAPHY, copies, has_text};
 use mm_host::Fault;
 use mm_label::Label;
 use mm_lists::{Lists, MemLists, Shortest, candidate, find_shortest};

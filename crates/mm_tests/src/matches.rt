@@ -1,6 +1,6 @@
 //! The worked rows of two documents, and labels with carets.
 
-use crate::documents::has_text;
+use mm_examples::documents::has_text;
 use mm_label::Label;
 use mm_match::{Mark, masks, prune};
 use std::alloc::{AllocError, Global};

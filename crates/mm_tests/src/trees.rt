@@ -2,7 +2,7 @@
 
 ghost use Rattle.std.specs.Prelude.{◌<◌, ◌^◌, length};
 
-use crate::documents::push_times;
+use mm_examples::documents::push_times;
 use mm_label::Label;
 use mm_tree::{Forest, Place, Refusal, TreeError, own_words};
 use mm_words::Word;

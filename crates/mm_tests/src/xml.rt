@@ -3,7 +3,7 @@
 
 ghost use Rattle.std.specs.Prelude.{◌<◌, ◌^◌, length};
 
-use crate::documents::push_times;
+use mm_examples::documents::push_times;
 use mm_tree::Forest;
 use mm_xml::{XmlError, read, write};
 use std::alloc::{AllocError, Global};

@@ -1,0 +1,6 @@
+use Rattle.mm_keeper.specs.Blocks.{joined}
+use Rattle.mm_keeper.specs.Entries.{IsSorted}
+use Rattle.mm_edit_tests.proofs.agreeing.all_agreed.Given as goal
+
+abbrev pub invariant-loop-i : goal.invariant-loop-i
+invariant-loop-i g l = record { sound : IsSorted (joined l.keeper.map) }

@@ -1,0 +1,4 @@
+use Rattle.mm_edit_tests.proofs.calls.uncounted.Given as goal
+
+abbrev pub ghosts-counted : goal.ghosts-counted
+ghosts-counted a = record { name = a.blank.name; parts = a.blank.parts }

@@ -1,0 +1,8 @@
+use Rattle.mm_edit_tests.proofs.Room.{room_stays}
+use Rattle.mm_edit_tests.proofs.edits.replace.Goals as goal
+
+pub carried-requires-clause-room : goal.carried-requires-clause-room
+carried-requires-clause-room g c = λ maps.
+    let ground = c.plan_replace-planned.ensures.ground in
+    let old = ground.maps.1 maps in
+    room_stays _ _ _ (ground.same old) (c.plan_replace-planned.ensures.room old)

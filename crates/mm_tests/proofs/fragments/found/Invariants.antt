@@ -1,4 +1,0 @@
-use Rattle.mm_tests.proofs.fragments.found.Given as goal
-
-abbrev pub ghosts-gathered : goal.ghosts-gathered
-ghosts-gathered a = record { name = a.blank.name; parts = a.blank.parts }

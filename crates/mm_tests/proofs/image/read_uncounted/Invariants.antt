@@ -1,4 +1,0 @@
-use Rattle.mm_tests.proofs.image.read_uncounted.Given as goal
-
-abbrev pub ghosts-read_back : goal.ghosts-read_back
-ghosts-read_back a = record { name = a.blank.name; parts = a.blank.parts }

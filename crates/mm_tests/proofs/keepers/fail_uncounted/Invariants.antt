@@ -1,4 +1,0 @@
-use Rattle.mm_tests.proofs.keepers.fail_uncounted.Given as goal
-
-abbrev pub ghosts-fail : goal.ghosts-fail
-ghosts-fail a = record { name = a.blank.name; parts = a.blank.parts }
