@@ -19,6 +19,11 @@ abbrev pub IsBelow : List ℕ → Entries → Type 0
 IsBelow k [] = Unit {0}
 IsBelow k (e ∷ m) = (below k e.0 ≡ true) × IsBelow k m
 
+-- all of these are below a key
+abbrev pub AllBelow : Entries → List ℕ → Type 0
+AllBelow [] k = Unit {0}
+AllBelow (e ∷ m) k = (below e.0 k ≡ true) × AllBelow m k
+
 -- each key is below those after it
 abbrev pub Rises : Entries → Type 0
 Rises [] = Unit {0}

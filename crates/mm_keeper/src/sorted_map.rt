@@ -1,9 +1,9 @@
 // A sorted map in memory, in blocks of entries.
 ghost use Rattle.std.specs.Prelude.{◌≡◌, ◌≤◌, ◌<◌, ◌+◌, ◌-◌, ◌^◌, ◌⊎◌, ◌↔◌, IsTrue, ℕ, suc, [], ◌∷◌, length, take, drop, Some, option_map, slice_get, slice_index_or, true, remove, IfOk, IfSome, OnOk, OnErr};
-ghost use Rattle.mm_keeper.specs.Entries.{HasRoom, IsSorted, Rises, IsBelow, rank, has, lookup, put, without, index_of, within, one_before, first_from, last_to, weight_of};
+ghost use Rattle.mm_keeper.specs.Entries.{AllBelow, HasRoom, IsSorted, Rises, IsBelow, rank, has, lookup, put, without, index_of, within, one_before, first_from, last_to, weight_of};
 ghost use Rattle.mm_keeper.specs.Blocks.{joined, AllSome, IsMap};
 ghost use Rattle.mm_keeper.specs.Places.{place_of};
-ghost use Rattle.mm_keeper.specs.Inside.Finding.{AllBelow, IsAt};
+ghost use Rattle.mm_keeper.specs.Inside.Finding.{IsAt};
 
 use crate::block::{Block, ROOM, halve, holds, place_in, rank_of};
 use crate::entry::{EntryRef, Item};

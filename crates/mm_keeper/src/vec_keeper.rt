@@ -3,6 +3,7 @@ ghost use Rattle.std.specs.Prelude.{◌≡◌, ◌≤◌, [], false, true, optio
 ghost use Rattle.mm_host.specs.Causes.{next_count};
 ghost use Rattle.mm_keeper.specs.Entries.{IsSorted, HasRoom, has, put, without};
 ghost use Rattle.mm_keeper.specs.Blocks.{joined};
+ghost use Rattle.mm_keeper.specs.Failing.{FailsAsListed};
 ghost use Rattle.mm_keeper.specs.Inside.Olds.{before_all};
 
 use crate::entry::{EntryRef, Item, Key, Value};
@@ -108,7 +109,8 @@ pub struct VecKeeper {
 impl VecKeeper {
     /// A keeper without entries, which fails at these calls. It takes no memory.
     pub fn new(failing: Vec<u64>) -> VecKeeper
-        ensures sound { IsSorted (joined result.map) }
+        ensures sorted { IsSorted (joined result.map) }
+        ensures listed { FailsAsListed result.failing.items result.faults }
         ensures now { joined result.map ≡ [] }
         ensures kept { result.olds.items ≡ [] }
         ensures failing { result.failing.items ≡ failing.items }
@@ -134,6 +136,8 @@ impl VecKeeper {
         ensures spent { self.new.spent ≡ (if result then true else self.old.spent) }
         ensures faults { self.new.faults ≡ (if result then next_count self.old.faults else self.old.faults) }
         ensures later { self.old.faults ≤ self.new.faults }
+        ensures failing { self.new.failing.items ≡ self.old.failing.items }
+        ensures listed { FailsAsListed self.old.failing.items self.old.faults → FailsAsListed self.new.failing.items self.new.faults }
     {
         self.calls = self.calls.saturating_add(1);
         let listed = self.failing.contains(&self.calls);
@@ -153,18 +157,21 @@ impl Keeper for VecKeeper {
     ghost use Rattle.mm_keeper.specs.Blocks.{joined};
     ghost use Rattle.mm_keeper.specs.Places.{place_of};
     ghost use Rattle.mm_keeper.specs.Keeping.{Seen, Written};
-    ghost use Rattle.mm_keeper.specs.Facts.Sorting.{IsSorted-prop};
+    ghost use Rattle.mm_keeper.specs.Failing.{FailsAsListed};
+    ghost use Rattle.mm_keeper.specs.Facts.Sorting.{FailsAsListed-prop, IsSorted-prop};
+    ghost use Rattle.std.specs.Prelude.{List, ℕ};
+    ghost use Rattle.std.specs.Coded.{×_prop};
     ghost use Rattle.mm_keeper.specs.Inside.Olds.{before_all};
 
-    ghost Device = { Unit {0} };
+    ghost Device = { List ℕ };
 
-    ghost over = { λ _. tt };
+    ghost over = { λ k. k.failing.items };
 
     ghost tells = { Unit {0} };
 
     ghost has_maps = { λ _. Unit {0} };
 
-    ghost is_sound = { λ k. IsSorted (joined k.map) };
+    ghost is_sound = { λ k. IsSorted (joined k.map) × FailsAsListed k.failing.items k.faults };
 
     ghost seen = { λ k. record { now = joined k.map; kept = before_all (joined k.map) k.olds.items; place = λ s. place_of k.map s } };
 
@@ -182,9 +189,9 @@ impl Keeper for VecKeeper {
 
     ghost changes = { λ _. 0 };
 
-    ghost sound_prop = { λ k. IsSorted-prop (joined k.map) };
+    ghost sound_prop = { λ k. ×_prop (IsSorted-prop (joined k.map)) (FailsAsListed-prop k.failing.items k.faults) };
 
-    ghost sorted = { λ k sound maps. sound };
+    ghost sorted = { λ k sound maps. sound.0 };
 
     ghost only_kept = { λ k m maps sound unspent left. left };
 

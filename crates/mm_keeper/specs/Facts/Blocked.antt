@@ -4,9 +4,9 @@ use Rattle.std.specs.Prelude.{slice_get, nat_lt}
 use Rattle.std.specs.List.Sorted.{IsPartitionPoint, IsPartitionedBy}
 use Rattle.std.proofs.lemmas.Bool.{cases_lt}
 use Rattle.std.proofs.lemmas.Bool.Decides.{nat_tests}
-use Rattle.mm_keeper.specs.Entries.{Entries, below, IsBelow, Rises, rank, has}
+use Rattle.mm_keeper.specs.Entries.{AllBelow, Entries, below, IsBelow, Rises, rank, has}
 use Rattle.mm_keeper.specs.Blocks.{Blocks, joined, place_in, AllSome}
-use Rattle.mm_keeper.specs.Inside.Finding.{AllBelow, ends_below, IsAt}
+use Rattle.mm_keeper.specs.Inside.Finding.{ends_below, IsAt}
 use Rattle.mm_keeper.specs.Facts.Keys.{below_chain, not_above, from_below, rank-front, rank-back, rank_at_most, has-front, has-back, AllBelow-app, IsBelow-parts, Rises-parts}
 
 -- ---- the rank, as a point that parts the entries

@@ -3,9 +3,8 @@ use Rattle.std.proofs.Common.{◌≡◌, ℕ, zero, suc, ◌+◌, ◌-◌, ◌^�
 use Rattle.std.specs.List.{insert, remove}
 use Rattle.std.specs.Str.{bytes_eq}
 use Rattle.std.proofs.lemmas.Slice.Eq.{bytes_eq-Decides}
-use Rattle.mm_keeper.specs.Entries.{Entries, HasRoom, below, IsBelow, rank, has, lookup, put, without, weight_of}
+use Rattle.mm_keeper.specs.Entries.{AllBelow, Entries, HasRoom, below, IsBelow, rank, has, lookup, put, without, weight_of}
 use Rattle.mm_keeper.specs.Blocks.{Blocks, joined, AllSome}
-use Rattle.mm_keeper.specs.Inside.Finding.{AllBelow}
 use Rattle.mm_keeper.specs.Facts.Keys.{put-front, put-back, without-front, without-back, lookup-front, lookup-back, has-in, lookup-at}
 use Rattle.mm_keeper.specs.Facts.Blocked.{around}
 

@@ -8,8 +8,7 @@ use Rattle.std.proofs.Math.ListN.{set}
 use Rattle.std.proofs.lemmas.Cmp.{nat_list_cmp_total}
 use Rattle.std.proofs.lemmas.Map.Text.{is_eq-slice_cmp}
 use Rattle.std.proofs.lemmas.Slice.Eq.{bytes_eq-Decides}
-use Rattle.mm_keeper.specs.Entries.{Entries, below, IsBelow, Rises, rank, has, lookup, put, without}
-use Rattle.mm_keeper.specs.Inside.Finding.{AllBelow}
+use Rattle.mm_keeper.specs.Entries.{AllBelow, Entries, below, IsBelow, Rises, rank, has, lookup, put, without}
 
 is_less : (o : Ordering) → is_lt o ≡ true → o ≡ Less
 is_less Less h = refl

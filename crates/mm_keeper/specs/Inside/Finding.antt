@@ -1,12 +1,7 @@
 -- The block in which a key is sought.
-use Rattle.std.specs.Prelude.{◌≡◌, ◌<◌, ℕ, suc, ◌+◌, List, [], ◌∷◌, length, take, drop, slice_index_or, Bool, true, Option, Some, None}
-use Rattle.mm_keeper.specs.Entries.{Entries, below, IsBelow, rank}
+use Rattle.std.specs.Prelude.{◌<◌, ℕ, suc, ◌+◌, List, [], ◌∷◌, length, take, drop, slice_index_or, Bool, true, Option, Some, None}
+use Rattle.mm_keeper.specs.Entries.{AllBelow, Entries, below, IsBelow, rank}
 use Rattle.mm_keeper.specs.Blocks.{Blocks, joined}
-
--- all of these are below a key
-abbrev pub AllBelow : Entries → List ℕ → Type 0
-AllBelow [] k = Unit {0}
-AllBelow (e ∷ m) k = (below e.0 k ≡ true) × AllBelow m k
 
 -- the last of these is below a key
 abbrev pub ends_below : Entries → List ℕ → Bool

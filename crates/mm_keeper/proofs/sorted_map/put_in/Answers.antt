@@ -1,8 +1,7 @@
 use Rattle.std.proofs.Common.{◌≡◌, ◌<◌, suc, length, get_or, take, drop, [], sym, ap, ◌∙◌, subst}
 use Rattle.std.specs.Prelude.{slice_set}
-use Rattle.mm_keeper.specs.Entries.{put, IsBelow, Rises, lookup}
+use Rattle.mm_keeper.specs.Entries.{AllBelow, put, IsBelow, Rises, lookup}
 use Rattle.mm_keeper.specs.Blocks.{joined}
-use Rattle.mm_keeper.specs.Inside.Finding.{AllBelow}
 use Rattle.mm_keeper.specs.Facts.Blocked.{get-any, some_at, rises_at}
 use Rattle.mm_keeper.specs.Facts.Changing.{put-joined, lookup-joined, set-same, some-set, put-some}
 use Rattle.mm_keeper.proofs.sorted_map.put_in.Goals as goal

@@ -1,4 +1,4 @@
-use Rattle.std.proofs.Common.{◌≡◌, ◌<◌, length, get_or, [], refl, sym, ap, ◌∙◌, subst, arith}
+use Rattle.std.proofs.Common.{◌≡◌, ◌<◌, length, get_or, [], refl, ap, ◌∙◌, arith}
 use Rattle.mm_keeper.specs.Facts.Blocked.{get-any, place-in_range, place-inside}
 use Rattle.mm_keeper.proofs.sorted_map.stands.Goals as goal
 
