@@ -12,23 +12,24 @@ use Rattle.mm_tree.specs.declared.forest.place.Place.{Place}
 use Rattle.mm_tree.specs.declared.forest.place.Place.TheVariants.{Before, After, First, Last}
 use Rattle.mm_tree.specs.declared.refusal.TreeError.{TreeError}
 use Rattle.mm_tree.specs.declared.refusal.TreeError.TheVariants as error
-use Rattle.mm_tree.specs.declared.refusal.Refusal.TheVariants.{Absent, Leaf, Room}
+use Rattle.mm_tree.specs.declared.refusal.Refusal.TheVariants.{Absent, Room}
 use Rattle.mm_tree.specs.Trees.{Trees, none, node, Tree, one, every, nodes, levels}
 use Rattle.mm_tree.specs.Validity.{is_element, is_valid_kind, is_valid_node, is_valid_tree}
 use Rattle.mm_tree.specs.Numbering.{Labelled, node_of, forest_of, number, fits, has_room, Labels, Numbers}
 use Rattle.mm_tree.specs.Forests.{are_labelled, has_valid_kind, are_elements, is_well_formed, IsRefusal}
-use Rattle.mm_tree.specs.Edits.{has_label, has_node, found, is_text_node, size_of, subtree_size, Change, taken_out, put_instead, put, edit, Gap, gap_at, gap, left_segment, right_segment, label_in, inserted_label, insert, delete, replace, is_inside, room_refusal, placed_refusal, insert_refusal, delete_refusal, replace_refusal}
+use Rattle.mm_tree.specs.Edits.{has_label, has_node, found, is_text_node, size_of, subtree_size, Change, taken_out, put_instead, put, edit, Gap, gap_at, gap, left_segment, right_segment, label_in, inserted_label, insert, delete, replace, is_inside, room_refusal, placed_refusal, delete_refusal, replace_refusal}
 use Rattle.mm_tree.specs.Gaps.{IsOpen}
 use Rattle.mm_tree.specs.Inside.Ways.{leads_to, found_down, edit_down, gap_down}
-use Rattle.mm_tree.proofs.NumberForm.{number_form, valid_numbered}
+use Rattle.mm_tree.specs.Facts.Numbers.{number_form, valid_numbered}
 use Rattle.mm_tree.specs.Facts.Formed.{parts}
 use Rattle.mm_tree.proofs.LoadFacts.{no_fit, no_fit_either, all_room, rises_is}
-use Rattle.mm_tree.proofs.WayLaws.{label_is, within, is_found, present, found_is, edit_is, gap_is, labels_of}
+use Rattle.mm_tree.proofs.WayLaws.{label_is, within, is_found, found_is, edit_is, gap_is, labels_of}
 use Rattle.mm_tree.specs.Facts.Walks.{node_of_out}
 use Rattle.mm_tree.proofs.FormLaws.{Suits, falls, put_keeps, delete_keeps, replace_keeps}
 use Rattle.mm_tree.proofs.EveryLaws.{Lenient, every_put, every_delete, every_replace}
 use Rattle.mm_tree.proofs.LevelLaws.{is_shallow, level_append, one_level, child_level, shallow, shallow_only, number_shallow}
 use Rattle.mm_tree.proofs.OpenFacts.{gap_open}
+use Rattle.mm_tree.specs.Facts.Found.{present}
 
 -- ---- what the way down tells
 
@@ -67,22 +68,12 @@ open_by p x forest g w h = gap_open p x [] None forest g (inl refl) tt (labels_o
 
 -- ---- refusals of an insertion
 
-pub absent_insert : (p : Place) (x : List ℤ) (t : Tree Kind) (forest : Trees Labelled) → has_node x forest ≡ false → insert_refusal p x t forest ≡ Some Absent
-absent_insert p x t forest h = rw h refl
-
 text_is : (p : Place) (n : Node) (r : Option (Tree Labelled)) → r ≡ Some (node_of n) → (is_inside p && is_text_node r) ≡ (is_inside p && not (is_element (out-Node n).kind))
 text_is p n r e = ap (λ z. is_inside p && is_text_node z) (e ∙ ap (λ (z : Tree Labelled). Some z) (node_of_out n))
 
 pub childless_by : (p : Place) (x : List ℤ) (forest : Trees Labelled) (n : Node) (b : Bool) → is_well_formed forest ≡ true → found_down x forest ≡ Some (node_of n)
     → b ≡ (is_inside p && not (is_element (out-Node n).kind)) → (is_inside p && is_text_node (found x forest)) ≡ b
 childless_by p x forest n b w h k = text_is p n (found x forest) (found_by x forest (node_of n) w h) ∙ sym k
-
-pub leaf_insert : (p : Place) (x : List ℤ) (t : Tree Kind) (forest : Trees Labelled) → has_node x forest ≡ true → (is_inside p && is_text_node (found x forest)) ≡ true → insert_refusal p x t forest ≡ Some Leaf
-leaf_insert p x t forest h k = rw (h, k) refl
-
-pub placed_insert : (p : Place) (x : List ℤ) (t : Tree Kind) (forest : Trees Labelled) (g : Gap) → has_node x forest ≡ true → (is_inside p && is_text_node (found x forest)) ≡ false → gap p x [] None forest ≡ g
-    → insert_refusal p x t forest ≡ placed_refusal (level g.parent) (label_in g) t
-placed_insert p x t forest g h k e = rw (h, k) (ap (λ (z : Gap). placed_refusal (level z.parent) (label_in z) t) e)
 
 -- ---- labels without room
 

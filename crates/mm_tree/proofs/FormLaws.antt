@@ -12,8 +12,8 @@ use Rattle.mm_tree.specs.Numbering.{Labelled}
 use Rattle.mm_tree.specs.Forests.{segment_below, is_before, rises, is_child_label, are_labelled, and_then, last_segment}
 use Rattle.mm_tree.specs.Edits.{has_label, Change, taken_out, put_instead, put, Gap, first_label, last_label, gap_at, left_segment, right_segment}
 use Rattle.mm_tree.specs.Inside.Ways.{leads_to, edit_down, gap_down}
-use Rattle.mm_tree.proofs.LabelledLaws.{child_ok, whole_of, at_end}
-use Rattle.mm_tree.specs.Facts.Formed.{Parts, parts}
+use Rattle.mm_tree.proofs.LabelledLaws.{whole_of, at_end}
+use Rattle.mm_tree.specs.Facts.Formed.{Parts, parts, child_ok}
 use Rattle.mm_tree.proofs.OrderLaws.{rises_more}
 use Rattle.mm_tree.proofs.WayLaws.{label_is}
 

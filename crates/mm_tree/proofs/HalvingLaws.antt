@@ -21,7 +21,8 @@ use Rattle.mm_tree.specs.Facts.Formed.{front_splits, parts}
 use Rattle.mm_tree.proofs.OrderLaws.{Under, rises_more, before_is, side_after}
 use Rattle.mm_tree.proofs.PlaceFacts.{is_at, get_next, get_none}
 use Rattle.mm_tree.specs.Facts.Walks.{labelled, node_of_out}
-use Rattle.mm_tree.proofs.WayLaws.{before_irreflexive, found_is, leads_home, not_found, within}
+use Rattle.mm_tree.proofs.WayLaws.{before_irreflexive, found_is, leads_home, within}
+use Rattle.mm_tree.specs.Facts.Found.{not_found}
 
 abbrev pub passed : List ℤ → Node → Bool
 passed x n = is_passed x (out-Node n).label

@@ -1,30 +1,15 @@
 -- Labels below a parent, and a tree behind its siblings.
-use Rattle.std.proofs.Common.{◌≡◌, refl, ap, ◌∙◌, Bool, true, ◌&&◌, List, [], ◌∷◌, ◌++◌, length, drop, arith}
+use Rattle.std.proofs.Common.{◌≡◌, refl, Bool, true, ◌&&◌, List, ◌++◌, arith}
 use Rattle.std.specs.Prelude.{ℤ, Option, Some, None, max}
 use Rattle.std.specs.List.{starts_with}
 use Rattle.std.specs.Ordering.{int_eq}
-use Rattle.std.proofs.lemmas.Slice.Eq.{starts_is}
-use Rattle.std.proofs.lemmas.Bool.Decides.{Decides-int_eq}
 use Rattle.std.proofs.lemmas.Bool.{and_from, and_parts}
 use Rattle.mm_label.specs.Label.{is_segment}
 use Rattle.mm_tree.specs.Trees.{Trees, none, node, Tree, one, every, has_some, levels}
 use Rattle.mm_tree.specs.Numbering.{Labelled}
 use Rattle.mm_tree.specs.Forests.{segment_below, rises, is_child_label, are_labelled, are_elements, and_then, last_segment}
-use Rattle.mm_tree.specs.Facts.Formed.{Parts, parts}
+use Rattle.mm_tree.specs.Facts.Formed.{Parts, parts, child_ok}
 use Rattle.mm_tree.specs.Validity.{is_element}
-
-pub front_is : (parent label rest : List ℤ) → label ≡ parent ++ rest → starts_with int_eq label parent ≡ true
-front_is parent label rest = (starts_is Decides-int_eq label parent (starts_with int_eq label parent) refl).1 rest
-
-drop_front : (y s : List ℤ) → drop (length y) (y ++ s) ≡ s
-drop_front [] s = refl
-drop_front (c ∷ y) s = drop_front y s
-
--- a label made of the parent's and a segment
-pub child_ok : (y s label : List ℤ) (left : Option (List ℤ)) → label ≡ y ++ s → is_segment s ≡ true → rises left s ≡ true → (is_child_label y left label ≡ true) × (segment_below y label ≡ s)
-child_ok y s label left e w r =
-    let t : segment_below y label ≡ s = ap (λ z. drop (length y) z) e ∙ drop_front y s in
-    (and_from (starts_with int_eq label y) _ (front_is y label s e) (and_from (is_segment (segment_below y label)) _ (ap (λ z. is_segment z) t ∙ w) (ap (λ z. rises left z) t ∙ r)), t)
 
 pub whole_of : (y : List ℤ) (left : Option (List ℤ)) (e : Labelled) (inner rest : Trees Labelled) → Parts y left e inner rest → are_labelled y left (node e inner rest) ≡ true
 whole_of y left e inner rest p =

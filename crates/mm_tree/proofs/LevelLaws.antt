@@ -8,7 +8,7 @@ use Rattle.mm_tree.specs.declared.plain.Kind.{Kind}
 use Rattle.mm_tree.specs.Trees.{Trees, Tree, none, node, one, every, levels}
 use Rattle.mm_tree.specs.Numbering.{Labelled, number}
 use Rattle.mm_tree.specs.Forests.{segment_below, are_labelled}
-use Rattle.mm_tree.proofs.NumberForm.{number_form, levels-number_from}
+use Rattle.mm_tree.specs.Facts.Numbers.{number_form, levels-number_from}
 use Rattle.mm_tree.specs.Facts.Formed.{front_splits, parts}
 
 -- the label has at most n segments

@@ -5,7 +5,7 @@ use Rattle.std.specs.Global.{Global}
 use Rattle.std.specs.Ordering.{is_lt}
 use Rattle.std.proofs.lemmas.Bool.{leb-true, le-leb, lt-leb, and_from, and_parts}
 use Rattle.mm_label.specs.Bytes.{bytes_of}
-use Rattle.mm_label.specs.Label.{is_odd, is_empty, is_segment, is_in_range, all_in_range, last_odd, IsLabel, IsLastSegment, IsBefore}
+use Rattle.mm_label.specs.Label.{is_odd, is_empty, is_segment, is_in_range, all_in_range, last_odd, IsLastSegment, IsBefore}
 use Rattle.mm_label.specs.Between.{between, first_out, LiesBetween}
 use Rattle.mm_label.specs.Refusals.{RefusesSegment, RefusesLabel}
 use Rattle.mm_label.specs.declared.LabelError.{LabelError}
@@ -26,7 +26,7 @@ use Rattle.mm_tree.specs.Numbering.{Labelled, node_of, node_step, forest_of, num
 use Rattle.mm_tree.specs.Forests.{rises, are_labelled, has_valid_kind, are_elements, is_well_formed, and_then, last_segment, next_label, numbered_behind, load, load_refusal, IsRefusal}
 use Rattle.mm_tree.proofs.LabelledLaws.{at_end, every_behind, elements_behind, levels-and_then}
 use Rattle.mm_tree.specs.Facts.Formed.{parts}
-use Rattle.mm_tree.proofs.NumberForm.{number_form, levels-number, valid_numbered}
+use Rattle.mm_tree.specs.Facts.Numbers.{number_form, levels-number, valid_numbered}
 
 -- ---- labels that don't fit
 
@@ -57,9 +57,6 @@ refused_label label_error.NotALabel x h = absurd h
 refused_label (label_error.OutOfRange v) x h = absurd h
 refused_label (label_error.Full n) x h = (refl, no_fit_either (all_in_range x) _ (lt-leb (length (bytes_of x)) 512 (omega (arith, h.0, h.1))))
 refused_label label_error.Memory x h = tt
-
-pub label_fits : (x : List ℤ) → IsLabel x → fits x ≡ true
-label_fits x h = and_from (all_in_range x) _ h.in_range (le-leb (length (bytes_of x)) 512 h.short)
 
 -- ---- the last tree's segment
 

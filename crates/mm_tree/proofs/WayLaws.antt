@@ -17,9 +17,10 @@ use Rattle.mm_tree.specs.Forests.{segment_below, is_before, are_labelled, is_wel
 use Rattle.mm_tree.specs.declared.forest.place.Place.{Place}
 use Rattle.mm_tree.specs.Edits.{has_label, has_node, found, Change, edit, Gap, gap_at, gap}
 use Rattle.mm_tree.specs.Inside.Ways.{leads_to, found_down, edit_down, gap_down}
-use Rattle.mm_tree.proofs.LabelledLaws.{front_is}
+use Rattle.mm_tree.specs.Facts.Formed.{front_is}
 use Rattle.mm_tree.specs.Facts.Formed.{front_splits, parts}
 use Rattle.mm_tree.proofs.OrderLaws.{Under, rises_more}
+use Rattle.mm_tree.specs.Facts.Found.{not_found, present}
 
 pub label_is : (x : List ℤ) (e : Labelled) → has_label x e ≡ true → e.label ≡ x
 label_is x e = (slice_eq-Decides Decides-int_eq e.label x (has_label x e) refl).0
@@ -99,15 +100,6 @@ none_below e inner x l f =
 
 -- ---- the node that is found
 
-pub not_found : (x : List ℤ) (ts : Trees Labelled) → has_node x ts ≡ false → found x ts ≡ None
-not_found x none h = refl
-not_found x (node e inner rest) h = by_tests (has_label x e) (has_node x inner) (has_node x rest) h (not_found x rest)
-  where
-    by_tests : (a b c : Bool) → (a || (b || c)) ≡ false → (c ≡ false → found x rest ≡ None) → (if a then Some (e, inner) else (if b then found x inner else found x rest)) ≡ None
-    by_tests true b c h p = absurd cc
-    by_tests false true c h p = absurd cc
-    by_tests false false c h p = p h
-
 -- what is found tells whether the label is there
 pub is_found : (x : List ℤ) (ts : Trees Labelled) → has_node x ts ≡ true → found x ts ≡ None → true ≡ false
 is_found x none h n = sym h
@@ -125,13 +117,6 @@ absent x ts n = by_test (has_node x ts) (λ h. is_found x ts h n)
     by_test : (b : Bool) → (b ≡ true → true ≡ false) → not b ≡ true
     by_test true f = sym (f refl)
     by_test false f = refl
-
-pub present : (x : List ℤ) (ts : Trees Labelled) (t : Tree Labelled) → found x ts ≡ Some t → has_node x ts ≡ true
-present x ts t e = by_test (has_node x ts) (not_found x ts)
-  where
-    by_test : (b : Bool) → (b ≡ false → found x ts ≡ None) → b ≡ true
-    by_test true f = refl
-    by_test false f = let n : found x ts ≡ None = f refl in absurd cc
 
 -- the way down by labels finds the same node
 pub found_is : (x y : List ℤ) (left : Option (List ℤ)) (ts : Trees Labelled) → are_labelled y left ts ≡ true → found_down x ts ≡ found x ts

@@ -9,3 +9,6 @@ pub mod Full
 pub mod Walks
 pub mod Labels
 pub mod Words
+pub mod Numbers
+pub mod Refusals
+pub mod Found

@@ -34,7 +34,7 @@ fn put(alloc: Global, lists: &mut KeywordLists, word: Word, label: Label) -> Res
 }
 
 /// Puts the label of a node behind the lists of its own words.
-fn put_words(
+pub fn put_words(
     alloc: Global,
     lists: &mut KeywordLists,
     label: &Label,

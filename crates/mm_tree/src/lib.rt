@@ -22,7 +22,7 @@ mod text;
 pub use forest::{Done, Forest, LEVEL_LIMIT, Opening, Place, level_of, new_label, placed};
 pub use fragment::{Fragment, Fragments};
 pub use hit::{Hit, Hits};
-pub use keywords::{KeywordLists, keyword_lists};
+pub use keywords::{KeywordLists, keyword_lists, put_words};
 pub use node::{Node, Nodes, number};
 pub use own::own_words;
 pub use plain::{Attribute, Attributes, Kind, NAME_LIMIT, Plain, Plains};

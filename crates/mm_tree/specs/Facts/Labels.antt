@@ -1,12 +1,12 @@
--- The labels of a well-formed forest are labels.
+-- The labels of a well-formed forest are labels, and a label has room.
 use Rattle.std.proofs.Common.{inl, inr, ◌≡◌, ℤ, Bool, true, false, cond, IsTrue, List, [], ◌∷◌, ◌++◌, refl, sym, subst, Option, Some, None, length}
-use Rattle.std.proofs.lemmas.Bool.{and_parts, leb-true}
+use Rattle.std.proofs.lemmas.Bool.{and_from, and_parts, le-leb, leb-true}
 use Rattle.mm_label.specs.Bytes.{bytes_of}
 use Rattle.mm_label.specs.Fronts.{Within}
 use Rattle.mm_label.specs.Facts.Members.{within_joined}
 use Rattle.mm_label.specs.Label.{IsLabel, all_in_range, is_empty, is_odd, is_segment, last_odd}
 use Rattle.mm_tree.specs.Trees.{Trees, none, node, every, has_some, preorder}
-use Rattle.mm_tree.specs.Numbering.{Labelled, has_room}
+use Rattle.mm_tree.specs.Numbering.{Labelled, fits, has_room}
 use Rattle.mm_tree.specs.Forests.{are_labelled, is_well_formed, segment_below}
 use Rattle.mm_tree.specs.Facts.Formed.{parts, front_splits}
 
@@ -49,3 +49,6 @@ node_is_labelled f w d i =
     let a = and_parts (are_labelled [] None f) _ w in
     let r = and_parts (every has_room f) _ a.1 in
     labels_are [] None f d a.0 r.0 i
+
+pub label_fits : (x : List ℤ) → IsLabel x → fits x ≡ true
+label_fits x h = and_from (all_in_range x) _ h.in_range (le-leb (length (bytes_of x)) 512 h.short)

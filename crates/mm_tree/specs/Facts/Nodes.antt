@@ -1,7 +1,9 @@
 -- The nodes of trees, each with its children.
 use Rattle.std.proofs.Common.{inl, inr, ◌≡◌, ◌⊎◌, sym, subst}
-use Rattle.mm_label.specs.Fronts.{Label, Front, Apart}
-use Rattle.mm_tree.specs.Trees.{Trees, none, node}
+use Rattle.mm_label.specs.Fronts.{Label, Front, Apart, Within}
+use Rattle.mm_label.specs.Facts.Members.{within_first, within_second}
+use Rattle.mm_tree.specs.Numbering.{Labelled}
+use Rattle.mm_tree.specs.Trees.{Trees, none, node, preorder}
 use Rattle.mm_tree.specs.Formed.{ApartFrom, Formed}
 use Rattle.mm_label.specs.Facts.Fronts.{front_trans, front_antisym, apart_below}
 
@@ -9,6 +11,16 @@ use Rattle.mm_label.specs.Facts.Fronts.{front_trans, front_antisym, apart_below}
 abbrev pub Stands : {A : Type 0} → A → Trees A → Trees A → Type 0
 Stands d low none = ⊥
 Stands d low (node e inner rest) = ((d ≡ e) × (low ≡ inner)) ⊎ (Stands d low inner ⊎ Stands d low rest)
+
+pub stands_among : (f : Trees Labelled) (d : Labelled) (low : Trees Labelled) → Stands d low f → Within d (preorder f)
+stands_among none d low h = absurd h
+stands_among (node e inner rest) d low h = elim h [
+  | inl k ↦ inl k.0
+  | inr k ↦ elim k [
+    | inl q ↦ inr (within_first d (preorder inner) (preorder rest) (stands_among inner d low q))
+    | inr q ↦ inr (within_second d (preorder inner) (preorder rest) (stands_among rest d low q))
+  ]
+]
 
 pub stands_under : {A : Type 0} (at : A → Label) (y : Label) (f : Trees A) (d : A) (low : Trees A) → Formed at y f → Stands d low f → Front y (at d) × (at d ≡ y → ⊥)
 stands_under at y none d low u h = absurd h

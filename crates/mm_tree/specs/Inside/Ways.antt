@@ -1,5 +1,5 @@
 -- The way down by labels: a node lies on it where its label is a prefix of the target's.
-use Rattle.std.specs.Prelude.{ℕ, zero, suc, ◌+◌, ◌-◌, nat_lt, ℤ, Bool, true, false, not, ◌&&◌, IsTrue, ◌≡◌, ◌⊎◌, ⊤, IfSome, List, [], ◌∷◌, length, slice_get, Option, Some, None, option_map, if◌then◌else◌}
+use Rattle.std.specs.Prelude.{ℕ, zero, suc, ◌+◌, ◌-◌, nat_lt, ℤ, Bool, true, not, ◌&&◌, ◌≡◌, ⊤, List, [], ◌∷◌, length, slice_get, Option, Some, None, option_map, if◌then◌else◌}
 use Rattle.std.specs.List.{starts_with}
 use Rattle.std.specs.Ordering.{int_eq}
 use Rattle.mm_label.specs.Label.{IsSegment, IsLastSegment}

@@ -1,6 +1,7 @@
 use Rattle.std.proofs.Common.{◌∙◌}
 use Rattle.std.proofs.lemmas.Result.{err_from_is_err_and}
-use Rattle.mm_tree.proofs.LoadFacts.{refused_segment, refused_label, label_fits}
+use Rattle.mm_tree.proofs.LoadFacts.{refused_segment, refused_label}
+use Rattle.mm_tree.specs.Facts.Labels.{label_fits}
 use Rattle.mm_tree.proofs.forest.next_label.Goals as goal
 
 pub returns : goal.returns

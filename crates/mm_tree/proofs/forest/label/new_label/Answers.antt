@@ -4,8 +4,9 @@ use Rattle.std.proofs.lemmas.Result.{err_from_is_err_and}
 use Rattle.mm_label.specs.Between.{LiesBetween}
 use Rattle.mm_tree.specs.Edits.{left_segment, right_segment}
 use Rattle.mm_tree.specs.Gaps.{gap_of}
-use Rattle.mm_tree.proofs.LoadFacts.{refused_label, label_fits}
+use Rattle.mm_tree.proofs.LoadFacts.{refused_label}
 use Rattle.mm_tree.proofs.OpenFacts.{refused_below}
+use Rattle.mm_tree.specs.Facts.Labels.{label_fits}
 use Rattle.mm_tree.proofs.forest.label.new_label.Goals as goal
 
 pub returns : goal.returns

@@ -1,7 +1,8 @@
 use Rattle.std.proofs.Common.{◌∙◌}
 use Rattle.mm_tree.specs.Numbering.{forest_of, node_of}
 use Rattle.mm_tree.specs.Gaps.{gap_of}
-use Rattle.mm_tree.proofs.EditFacts.{absent_by, present_by, gap_by, no_gap_by, open_by, childless_by, absent_insert, leaf_insert, placed_insert}
+use Rattle.mm_tree.proofs.EditFacts.{absent_by, present_by, gap_by, no_gap_by, open_by, childless_by}
+use Rattle.mm_tree.specs.Facts.Refusals.{absent_insert, leaf_insert, placed_insert}
 use Rattle.mm_tree.proofs.forest.opening.opening_for.Goals as goal
 
 pub returns-in_default-clause-refused : goal.returns-in_default-clause-refused

@@ -1,4 +1,4 @@
--- A numbered tree is labelled, and has the levels that it had.
+-- A numbered tree is labelled, and has the levels and the kinds that it had.
 use Rattle.std.proofs.Common.{◌≡◌, refl, ap, ◌∙◌, ℕ, ◌+◌, ◌*◌, ◌-◌, ◌<◌, true, false, List, [], ◌∷◌, arith, cond, ltb, eqb, Less, Greater, Equal, ◌&&◌}
 use Rattle.std.specs.Prelude.{ℤ, pos, Option, Some, None, max}
 use Rattle.std.proofs.lemmas.Bool.{lt-ltb, and_from, and_parts}
@@ -10,7 +10,7 @@ use Rattle.mm_tree.specs.Trees.{Trees, none, node, Tree, one, every, has_some, l
 use Rattle.mm_tree.specs.Validity.{is_valid_node}
 use Rattle.mm_tree.specs.Numbering.{child_label, number, number_from}
 use Rattle.mm_tree.specs.Forests.{is_before, rises, is_child_label, are_labelled, has_valid_kind}
-use Rattle.mm_tree.proofs.LabelledLaws.{child_ok}
+use Rattle.mm_tree.specs.Facts.Formed.{child_ok}
 
 odd_is : (i : ℕ) → is_odd (pos (2 * i + 1)) ≡ true
 odd_is i = ap (λ r. eqb r 1) (mul-add-mod_self_left 2 i 1)
