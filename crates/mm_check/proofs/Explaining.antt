@@ -13,9 +13,9 @@ use Rattle.mm_tree.specs.Forests.{level_limit}
 use Rattle.mm_tree.specs.Numbering.{Labelled}
 use Rattle.mm_tree.specs.Validity.{has_valid_parts, is_element, is_valid_kind, piece_count}
 use Rattle.mm_image.specs.Content.{content}
-use Rattle.mm_image.specs.Fields.{Field, Short, Wrong, Right, is_text, kind_told, standing}
+use Rattle.mm_image.specs.Fields.{Field, Short, Wrong, Right, is_text, kind_told, may_stand, standing}
 use Rattle.mm_check.specs.Laws.{AreBytes, AreValues}
-use Rattle.mm_check.specs.Reading.{Open, Place, Progress, ◌&>◌, begins_text, continued, ended, ended_node, hangs, is_first, is_label, is_next, is_piece, kind_of, last_piece, may_stand, not_due, ok_if, place_of, read, started, step_at}
+use Rattle.mm_check.specs.Reading.{Open, Place, Progress, ◌&>◌, begins_text, continued, ended, ended_node, hangs, is_first, is_label, is_next, is_piece, kind_of, last_piece, not_due, ok_if, place_of, read, started, step_at}
 use Rattle.mm_image.specs.Facts.Pieces.{count_is}
 use Rattle.mm_image.specs.Laws.{ReadAreContents}
 use Rattle.mm_check.proofs.Parts.{IsPlaced, at_most, byte_at, bytes_joined, label_of, ok_parts, piece_size, placed, same_number, then_parts}

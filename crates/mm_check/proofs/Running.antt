@@ -17,13 +17,13 @@ use Rattle.mm_tree.specs.Forests.{level_limit}
 use Rattle.mm_tree.specs.Numbering.{Labelled}
 use Rattle.mm_tree.specs.Validity.{has_valid_parts, is_element, is_valid_kind}
 use Rattle.mm_image.specs.Content.{content}
-use Rattle.mm_image.specs.Fields.{Field, Short, Wrong, Right, is_text, is_wrong, kind_told, standing}
+use Rattle.mm_image.specs.Fields.{Field, Short, Wrong, Right, is_text, is_wrong, kind_told, may_stand, standing}
 use Rattle.mm_image.specs.Image.{chunks_of}
 use Rattle.mm_image.specs.Keys.{chunk_key}
 use Rattle.mm_image.specs.Inside.Cutting.{join, numbered, pieces_of}
 use Rattle.mm_image.specs.Inside.Gathered.{IsCut}
 use Rattle.mm_check.specs.declared.verdict.Named.{Named}
-use Rattle.mm_check.specs.Reading.{Open, Place, Progress, ◌&>◌, begins_text, continued, ended, ended_node, hangs, is_first, is_label, is_next, is_piece, is_place, kind_of, last_piece, may_stand, not_due, ok_if, place_in, place_of, read, started, step_at}
+use Rattle.mm_check.specs.Reading.{Open, Place, Progress, ◌&>◌, begins_text, continued, ended, ended_node, hangs, is_first, is_label, is_next, is_piece, is_place, kind_of, last_piece, not_due, ok_if, place_in, place_of, read, started, step_at}
 use Rattle.mm_image.specs.Facts.Pieces.{chunks_are, cut_is, joined, pieces_few}
 use Rattle.mm_image.specs.Laws.{ContentsAreRead}
 use Rattle.mm_check.proofs.Lasting.{wrong_stays}

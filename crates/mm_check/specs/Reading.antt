@@ -14,7 +14,7 @@ use Rattle.mm_tree.specs.Forests.{level_limit}
 use Rattle.mm_tree.specs.Numbering.{Labelled, fits}
 use Rattle.mm_tree.specs.Validity.{is_element}
 use Rattle.mm_image.specs.Content.{piece_limit}
-use Rattle.mm_image.specs.Fields.{Field, Short, Wrong, Right, is_text, is_wrong, standing}
+use Rattle.mm_image.specs.Fields.{Field, Short, Wrong, Right, is_text, may_stand, standing}
 use Rattle.mm_image.specs.Keys.{chunk_key}
 use Rattle.mm_check.specs.declared.verdict.Named.{Named}
 
@@ -97,10 +97,6 @@ ended nodes (Some o) = ended_node o &> λ e. Ok (e ∷ nodes)
 -- some bytes, no more than a piece has
 abbrev pub is_piece : List ℕ → Bool
 is_piece value = nat_le 1 (length value) && nat_le (length value) piece_limit
-
--- with these bytes, no field of a content is whole and wrong
-abbrev pub may_stand : List ℕ → Bool
-may_stand bytes = not (is_wrong (standing bytes))
 
 -- the label is one segment, or that of one of these elements and one segment
 abbrev pub hangs : List Labelled → List ℤ → Bool

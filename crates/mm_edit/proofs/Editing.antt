@@ -11,7 +11,7 @@ use Rattle.mm_image.specs.Image.{entries_of, image}
 use Rattle.mm_image.specs.Keys.{count_key}
 use Rattle.mm_image.specs.Laws.{ImagesRise, KeysAreApart}
 use Rattle.mm_image.specs.Facts.LabelOrder.{Ancestry, ByteOrder}
-use Rattle.mm_image.proofs.Rising.{nodes_of}
+use Rattle.mm_image.specs.Facts.Rising.{nodes_of}
 use Rattle.mm_edit.specs.Difference.{changed, gone}
 use Rattle.mm_edit.specs.Inside.Changes.{Becomes, number_of, words_of}
 use Rattle.mm_edit.specs.Inside.Counting.{counts_at}

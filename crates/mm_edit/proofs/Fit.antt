@@ -20,7 +20,7 @@ use Rattle.mm_image.specs.Laws.{KeysAreApart}
 use Rattle.mm_image.specs.declared.parsed.Parsed.{Parsed}
 use Rattle.mm_image.specs.declared.parsed.Parsed.TheVariants.{Chunk, Occurrence, Count}
 use Rattle.mm_image.specs.Facts.Pieces.{few_pieces}
-use Rattle.mm_image.proofs.Rising.{Nodes, within_range}
+use Rattle.mm_image.specs.Facts.Rising.{Nodes, within_range}
 use Rattle.mm_edit.specs.Difference.{Key}
 use Rattle.mm_edit.specs.Inside.Finding.{has_key}
 use Rattle.mm_edit.specs.Inside.Nodes.{brought, occurring, owned, tally, AreApart, IsFit}

@@ -25,8 +25,8 @@ use Rattle.mm_image.specs.Laws.{CountsAreLengths, ImagesRise, KeysAreApart}
 use Rattle.mm_image.specs.Facts.LabelOrder.{Ancestry, ByteOrder}
 use Rattle.mm_image.specs.Facts.Members.{count_is, listed_word}
 use Rattle.mm_image.specs.Facts.Members as members
-use Rattle.mm_image.proofs.Rising.{Headed, occurrences_headed, words_rise}
-use Rattle.mm_image.proofs.WordFacts.{Above}
+use Rattle.mm_image.specs.Facts.Rising.{Headed, occurrences_headed, words_rise}
+use Rattle.mm_image.specs.Facts.Words.{Above}
 use Rattle.mm_edit.specs.Difference.{Key, IsDifference, changed, gone, holds, keys, without_all}
 use Rattle.mm_edit.specs.declared.changing.WordChange.{WordChange}
 use Rattle.mm_edit.specs.Inside.Changes.{Becomes, change, changes, number_of, words_of}

@@ -1,18 +1,19 @@
 -- The neighbours of a gap, from the last label or the first one that a look-up finds.
 use Rattle.std.proofs.Common.{inl, inr, ◌≡◌, ◌⊎◌, Bool, true, false, ◌||◌, List, [], map, refl, ap, sym, subst, ◌∙◌, Option, Some, None}
 use Rattle.std.specs.Prelude.{if◌then◌else◌}
-use Rattle.std.proofs.lemmas.Bool.{or_right}
 use Rattle.mm_label.specs.Fronts.{Apart, Front, IsChild, Label, Le, Lt, Within}
 use Rattle.mm_label.specs.Label.{whole}
 use Rattle.mm_label.specs.Facts.Children.{same_child}
 use Rattle.mm_label.specs.Facts.Fronts.{apart_below, apart_trans, front_antisym, front_cases, front_le, front_refl, front_trans, le_antisym}
 use Rattle.mm_label.specs.Facts.Lists.{apart_lt, lt_below}
 use Rattle.mm_label.specs.Facts.Members.{in_within, within_in, within_joined, within_first, within_second}
-use Rattle.mm_label.specs.Facts.Order.{label_same, same_label}
+use Rattle.mm_label.specs.Facts.Order.{same_label}
 use Rattle.mm_tree.specs.declared.forest.place.Place.{Place}
 use Rattle.mm_tree.specs.declared.forest.place.Place.TheVariants.{Before, After, First, Last}
 use Rattle.mm_tree.specs.Edits.{Gap, first_label, found, gap, gap_at, has_label, has_node, last_label}
 use Rattle.mm_tree.specs.Formed.{ApartFrom, Formed, node_label}
+use Rattle.mm_tree.specs.Facts.Found.{found_stands, some_found, some_node}
+use Rattle.mm_tree.specs.Facts.Nodes.{stands_among}
 use Rattle.mm_tree.specs.Facts.Places.{node_apart, node_under}
 use Rattle.mm_tree.specs.Numbering.{Labelled}
 use Rattle.mm_tree.specs.Trees.{Tree, Trees, none, node, preorder}
@@ -222,23 +223,10 @@ last_around f u = last_is (labels_of f) [] (λ d. Apart [] d → ⊥) f u (λ d 
 
 -- a label that is there is that of a node
 pub node_found : (x : Label) (f : Trees Labelled) → has_node x f ≡ true → (t : Tree Labelled) × (found x f ≡ Some t) × Within t.0 (preorder f) × ((t.0).label ≡ x)
-node_found x none h = absurd cc
-node_found x (node e inner rest) h = by (has_label x e) refl (has_node x inner) refl h (node_found x inner) (node_found x rest)
-  where
-    by : (a : Bool) → has_label x e ≡ a → (c : Bool) → has_node x inner ≡ c → (a || (c || has_node x rest)) ≡ true
-        → (has_node x inner ≡ true → (t : Tree Labelled) × (found x inner ≡ Some t) × Within t.0 (preorder inner) × ((t.0).label ≡ x))
-        → (has_node x rest ≡ true → (t : Tree Labelled) × (found x rest ≡ Some t) × Within t.0 (preorder rest) × ((t.0).label ≡ x))
-        → (t : Tree Labelled) × ((if a then Some (e, inner) else (if c then found x inner else found x rest)) ≡ Some t) × Within t.0 (preorder (node e inner rest)) × ((t.0).label ≡ x)
-    by true q c r h i j = ((e, inner), refl, inl refl, same_label e.label x q)
-    by false q true r h i j = let t = i r in (t.0, t.1, inr (within_first (t.0).0 (preorder inner) (preorder rest) t.2), t.3)
-    by false q false r h i j = let t = j h in (t.0, t.1, inr (within_second (t.0).0 (preorder inner) (preorder rest) t.2), t.3)
+node_found x f h =
+    let t = some_found x f h in
+    let s = found_stands x f t.0 t.1 in
+    (t.0, t.1, stands_among f (t.0).0 (t.0).1 s.0, s.1)
 
 pub node_there : (x : Label) (f : Trees Labelled) → Within x (labels_of f) → has_node x f ≡ true
-node_there x none w = absurd w
-node_there x (node e inner rest) w = elim (among x e inner rest w) [
-  | inl q ↦ ap (λ (t : Bool). t || (has_node x inner || has_node x rest)) (label_same e.label x (sym q))
-  | inr q ↦ or_right (has_label x e) (has_node x inner || has_node x rest) (elim q [
-    | inl r ↦ ap (λ (t : Bool). t || has_node x rest) (node_there x inner r)
-    | inr r ↦ or_right (has_node x inner) (has_node x rest) (node_there x rest r)
-  ])
-]
+node_there x f w = let t = within_in node_label x (preorder f) w in some_node x f t.0 t.1 (sym t.2)

@@ -17,12 +17,12 @@ use Rattle.mm_tree.specs.Formed.{Formed, node_label}
 use Rattle.mm_tree.specs.Numbering.{Labelled, Numbers, child_label, fits, has_room, node_of, number, number_from}
 use Rattle.mm_tree.specs.Trees.{Tree, Trees, none, node, every, nodes, one, preorder}
 use Rattle.mm_tree.specs.Validity.{is_valid_node, is_valid_tree}
-use Rattle.mm_tree.proofs.NumberForm.{number_form, valid_numbered}
+use Rattle.mm_tree.specs.Facts.Numbers.{number_form, valid_numbered}
 use Rattle.mm_image.specs.Facts.LabelOrder.{Ancestry, ByteOrder}
 use Rattle.mm_image.specs.Facts.Members.{node_is_valid}
 use Rattle.mm_image.specs.Image.{entries_of}
-use Rattle.mm_image.proofs.Rising.{Nodes, entries_rise}
-use Rattle.mm_image.proofs.Standing.{labelled_formed}
+use Rattle.mm_image.specs.Facts.Rising.{Nodes, entries_rise}
+use Rattle.mm_tree.specs.Facts.Formed.{labelled_formed}
 
 pub room_all : (x : Label) (t : Tree Kind) (u : Tree Labelled) → u ≡ number x t → fits x ≡ true → every has_room (number x t).1 ≡ true → every has_room (one u) ≡ true
 room_all x t u e f r = subst (λ (z : Tree Labelled). every has_room (one z) ≡ true) (sym e) (and_from (fits x) _ f (and_from (every has_room (number x t).1) true r refl))

@@ -17,8 +17,8 @@ use Rattle.mm_image.specs.Keys.{count_key}
 use Rattle.mm_image.specs.Image.{chunks, entries_of, occurrences, words}
 use Rattle.mm_image.specs.Facts.Members.{listed_word}
 use Rattle.mm_image.specs.Facts.LabelOrder.{Ancestry, ByteOrder}
-use Rattle.mm_image.proofs.Rising.{Headed, Nodes, chunks_headed, entries_rise, headed, occurrences_headed, words_rise}
-use Rattle.mm_image.proofs.WordFacts.{Above}
+use Rattle.mm_image.specs.Facts.Rising.{Headed, Nodes, chunks_headed, entries_rise, headed, occurrences_headed, words_rise}
+use Rattle.mm_image.specs.Facts.Words.{Above}
 use Rattle.mm_edit.specs.Difference.{Key}
 use Rattle.mm_edit.specs.Inside.Changes.{words_of}
 use Rattle.mm_edit.specs.Inside.Counting.{count_entry, counts_at}

@@ -23,7 +23,7 @@ use Rattle.mm_image.specs.Facts.Finding.{IsDown, IsUp}
 use Rattle.mm_image.specs.Facts.LabelOrder.{Ancestry, ByteOrder, begins, label_upto, past_upto, upto_label}
 use Rattle.mm_image.specs.Facts.Members.{chunk_in}
 use Rattle.mm_image.specs.Facts.Upto.{UpTo, below_not, below_upto, not_below, upto_behind, upto_cancel, upto_front, upto_more, upto_refl, upto_trans}
-use Rattle.mm_image.proofs.KeyOrder.{chunk_less}
+use Rattle.mm_image.specs.Facts.KeyOrder.{chunk_less}
 use Rattle.mm_edit.specs.Inside.Placing.{IsFirst, IsLast, TellsLabel}
 use Rattle.mm_edit.proofs.Nearest.{labels_of}
 

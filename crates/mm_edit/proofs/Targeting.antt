@@ -34,7 +34,7 @@ use Rattle.mm_image.specs.Facts.Finding.{IsAt, at_found, same_key}
 use Rattle.mm_image.specs.Facts.LabelOrder.{Ancestry, ByteOrder}
 use Rattle.mm_image.specs.Facts.Members.{chunk_in, listed_label, words_are}
 use Rattle.mm_image.specs.Facts.Pieces.{few_pieces}
-use Rattle.mm_image.proofs.Rising.{nodes_of, within_range}
+use Rattle.mm_image.specs.Facts.Rising.{nodes_of, within_range}
 use Rattle.mm_edit.specs.Blame.{Blames}
 use Rattle.mm_edit.specs.Inside.Placing.{BlamesHeld, begins_text, is_text_in}
 use Rattle.mm_edit.specs.Plans.{IsRefusedBy, of_tree}

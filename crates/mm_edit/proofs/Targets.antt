@@ -1,5 +1,5 @@
 -- The target of an edit, as it is read and as it stands in a forest.
-use Rattle.std.proofs.Common.{inl, inr, ◌≡◌, ◌≤◌, ◌<◌, ◌*◌, refl, ap, sym, subst, ℕ, ℤ, ◌+◌, Bool, true, false, ◌||◌, not, List, [], ◌∷◌, Option, Some, None, arith, length, length-append, length-drop, drop}
+use Rattle.std.proofs.Common.{inl, inr, ◌≡◌, ◌≤◌, ◌<◌, ◌*◌, refl, ap, sym, subst, ℕ, ℤ, ◌+◌, Bool, true, false, not, List, [], ◌∷◌, Option, Some, None, arith, length, length-append, length-drop, drop}
 use Rattle.std.specs.Prelude.{if◌then◌else◌, nat_lt}
 use Rattle.std.proofs.lemmas.Bool.Decides.{nat_tests}
 use Rattle.std.proofs.lemmas.List.{length-map}
@@ -11,12 +11,12 @@ use Rattle.mm_label.specs.Facts.Fronts.{front_le}
 use Rattle.mm_label.specs.Facts.Members.{within_joined}
 use Rattle.mm_label.specs.Facts.Ordered.{ordered_joined}
 use Rattle.mm_keeper.specs.Entries.{Entries, Entry, IsSorted, rank}
-use Rattle.mm_tree.specs.Edits.{delete_refusal, found, has_label, has_node}
+use Rattle.mm_tree.specs.Edits.{delete_refusal, found}
 use Rattle.mm_tree.specs.Facts.Places.{node_under, preorder_rises}
 use Rattle.mm_tree.specs.Formed.{Formed, node_label}
 use Rattle.mm_tree.specs.Forests.{and_then}
 use Rattle.mm_tree.specs.Numbering.{Labelled}
-use Rattle.mm_tree.specs.Trees.{Tree, Trees, none, node, one, preorder}
+use Rattle.mm_tree.specs.Trees.{Tree, Trees, one, preorder}
 use Rattle.mm_tree.specs.declared.refusal.Refusal.{Refusal}
 use Rattle.mm_tree.specs.declared.refusal.Refusal.TheVariants.{Absent}
 use Rattle.mm_image.specs.Image.{entries_of, image}
@@ -24,39 +24,22 @@ use Rattle.mm_image.specs.Keys.{chunk_key, count_key}
 use Rattle.mm_image.specs.Subtrees.{begins, leading, run_of}
 use Rattle.mm_image.specs.Facts.LabelOrder.{Ancestry, ByteOrder}
 use Rattle.mm_image.specs.Facts.Members.{node_is_valid}
-use Rattle.mm_image.proofs.Rising.{Nodes, entries_rise}
-use Rattle.mm_image.specs.Facts.Standing.{Stands}
-use Rattle.mm_image.proofs.Standing.{labelled_formed, stored_label, stored_tree}
+use Rattle.mm_image.specs.Facts.Rising.{Nodes, entries_rise}
+use Rattle.mm_image.specs.Facts.Standing.{Stands, stored_label, stored_tree}
+use Rattle.mm_tree.specs.Facts.Formed.{labelled_formed}
 use Rattle.mm_edit.specs.Inside.Changes.{Becomes, change, changes, number_of, words_of}
 use Rattle.mm_edit.specs.Inside.Counting.{count_entry, counts_at}
 use Rattle.mm_edit.proofs.Editing.{Leads, both_numbers, counts_follow, counts_within, part_of}
 use Rattle.mm_edit.proofs.Values.{word_listed}
+use Rattle.mm_tree.specs.Facts.Found.{present, found_none}
 
 -- ---- refused exactly where no node has the label
-
-found_some : (x : List ℤ) (f : Trees Labelled) (n : Tree Labelled) → found x f ≡ Some n → has_node x f ≡ true
-found_some x none n h = absurd cc
-found_some x (node e inner rest) n h = by (has_label x e) (has_node x inner) h (found_some x rest n)
-  where
-    by : (a b : Bool) → (if a then Some (e, inner) else (if b then found x inner else found x rest)) ≡ Some n → (found x rest ≡ Some n → has_node x rest ≡ true) → a || (b || has_node x rest) ≡ true
-    by true b h g = refl
-    by false true h g = refl
-    by false false h g = g h
-
-found_none : (x : List ℤ) (f : Trees Labelled) → found x f ≡ None → has_node x f ≡ false
-found_none x none h = refl
-found_none x (node e inner rest) h = by (has_label x e) (has_node x inner) refl h (found_none x inner) (found_none x rest)
-  where
-    by : (a b : Bool) → has_node x inner ≡ b → (if a then Some (e, inner) else (if b then found x inner else found x rest)) ≡ None → (found x inner ≡ None → has_node x inner ≡ false) → (found x rest ≡ None → has_node x rest ≡ false) → a || (b || has_node x rest) ≡ false
-    by true b p h f g = absurd cc
-    by false true p h f g = absurd (let t = f h in cc)
-    by false false p h f g = g h
 
 abbrev refusal : Bool → Option Refusal
 refusal b = if not b then Some Absent else None
 
 pub accepted : (x : List ℤ) (f : Trees Labelled) (n : Tree Labelled) → found x f ≡ Some n → delete_refusal x f ≡ None
-accepted x f n h = ap refusal (found_some x f n h)
+accepted x f n h = ap refusal (present x f n h)
 
 pub refused : (x : List ℤ) (f : Trees Labelled) → found x f ≡ None → delete_refusal x f ≡ Some Absent
 refused x f h = ap refusal (found_none x f h)

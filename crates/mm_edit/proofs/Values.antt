@@ -14,8 +14,8 @@ use Rattle.mm_tree.specs.Search.{list_of, own, worded}
 use Rattle.mm_image.specs.Keys.{count_key, occurrence_key}
 use Rattle.mm_image.specs.Image.{chunks, chunks_of, count_of, counts, image, occurrences, occurrences_of, words}
 use Rattle.mm_image.specs.Facts.Members.{listed_is, listed_word, own_label}
-use Rattle.mm_image.proofs.Rising.{chunks_headed, counts_headed, occurrences_headed}
-use Rattle.mm_image.proofs.WordFacts.{is_listed, word_is_held}
+use Rattle.mm_image.specs.Facts.Rising.{chunks_headed, counts_headed, occurrences_headed}
+use Rattle.mm_image.specs.Facts.Words.{is_listed, word_is_held}
 use Rattle.mm_edit.specs.Difference.{Key}
 use Rattle.mm_edit.specs.Inside.Finding.{find}
 use Rattle.mm_edit.specs.Inside.Nodes.{brought, occurring, owned, tally, is_counted, counted_as, or_else, value_at}

@@ -16,7 +16,7 @@ use Rattle.mm_tree.specs.KeywordLists.{AreFilled, list_in}
 use Rattle.mm_tree.specs.Numbering.{Labelled}
 use Rattle.mm_tree.specs.Search.{list_of, worded}
 use Rattle.mm_tree.specs.Trees.{Trees, preorder}
-use Rattle.mm_image.proofs.WordFacts.{in_order_rises, is_listed, word_is_held}
+use Rattle.mm_image.specs.Facts.Words.{in_order_rises, is_listed, word_is_held}
 use Rattle.mm_edit.specs.Inside.Changes.{number_of, words_of}
 use Rattle.mm_edit.proofs.Editing.{both_numbers}
 

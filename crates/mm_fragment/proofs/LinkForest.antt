@@ -11,7 +11,7 @@ use Rattle.mm_tree.specs.Formed.{Formed, node_label}
 use Rattle.mm_label.specs.Facts.Fronts.{front_refl}
 use Rattle.mm_label.specs.Facts.Order.{same_label, label_same, label_other}
 use Rattle.mm_tree.specs.Facts.Nodes.{Stands}
-use Rattle.mm_image.specs.Facts.Naming.{found_stands}
+use Rattle.mm_tree.specs.Facts.Found.{found_stands}
 use Rattle.mm_tree.specs.Facts.Places.{node_under, node_apart}
 use Rattle.mm_tree.specs.Facts.Runs.{subtree_run}
 use Rattle.mm_label.specs.Facts.Members.{within_joined, within_first, within_second}

@@ -19,7 +19,7 @@ use Rattle.mm_fragment.specs.Telling.{SmallestTell, ExclusiveTell}
 use Rattle.mm_label.specs.Facts.Lists.{own_cases, own_of}
 use Rattle.mm_label.specs.Facts.Members.{contains_of, within_of, within_joined, within_first, within_second}
 use Rattle.mm_fragment.proofs.Subtree.{apart_common}
-use Rattle.mm_image.specs.Facts.Naming.{found_stands}
+use Rattle.mm_tree.specs.Facts.Found.{found_stands}
 use Rattle.mm_fragment.proofs.Open.{bares_named}
 use Rattle.mm_label.specs.Facts.Fronts.{front_refl, front_trans, front_antisym}
 use Rattle.mm_tree.specs.Facts.Formed.{formed}

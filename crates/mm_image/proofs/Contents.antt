@@ -13,10 +13,9 @@ use Rattle.mm_tree.specs.declared.plain.Kind.{Kind}
 use Rattle.mm_tree.specs.declared.plain.Kind.TheVariants.{Element, Words}
 use Rattle.mm_tree.specs.Validity.{are_chars, are_distinct, has_valid_parts, is_node_name, is_valid_attribute}
 use Rattle.std.proofs.lemmas.Slice.Eq.{bytes_eq-Decides}
-use Rattle.mm_image.specs.Content.{attribute_bytes, content, sized}
+use Rattle.mm_image.specs.Content.{IsContent, IsKindOf, attribute_bytes, content, sized}
 use Rattle.mm_image.proofs.ChunkFacts.{few_attributes, name_short, valid_attributes, valid_name, value_fits}
 use Rattle.mm_image.proofs.KeyFacts.{four_bytes}
-use Rattle.mm_image.specs.Inside.Getting.{IsContent, IsKindOf}
 use Rattle.mm_image.specs.Fields.{Field, Short, Wrong, Right, ◌>>=◌, given, checked, is_name_length, is_new, number_at, bytes_at, name_at, value_at, attribute_at, attributes_at, element_at, ended, standing, is_text, kind_told, kind_in}
 
 -- ---- names
@@ -354,7 +353,7 @@ element_parts bs k r e a z =
       good = and_from (is_node_name b.x) _ n.good (and_from (list_all is_valid_attribute d.x) _ i.good (and_from (are_distinct (names d.x)) _ (new_distinct [] d.x i.new).0 (less (length d.x) 4294967296 (omega arith))));
     })
 
-no_words : (bs text : List ℕ) (r : List ℕ) → element_at bs ≡ Right (Words text) r → ⊥
+pub no_words : (bs text : List ℕ) (r : List ℕ) → element_at bs ≡ Right (Words text) r → ⊥
 unfolding element_at
 no_words bs text r e =
     let k : Kind = Words text in

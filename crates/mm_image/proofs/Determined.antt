@@ -30,7 +30,7 @@ use Rattle.mm_image.specs.Laws.{ImagesTellForests}
 use Rattle.mm_image.specs.Facts.Pieces.{count_is, joined}
 use Rattle.mm_image.proofs.ChunkFacts.{name_fits, valid_attributes, valid_name, valid_parts, value_fits}
 use Rattle.mm_image.proofs.KeyFacts.{same_front}
-use Rattle.mm_image.proofs.Rising.{chunks_headed, counts_headed, Headed, nodes_of, occurrences_headed, within_range}
+use Rattle.mm_image.specs.Facts.Rising.{chunks_headed, counts_headed, Headed, nodes_of, occurrences_headed, within_range}
 
 -- two lists that are split by what their first parts have and their ends haven't
 same_runs : {X : Type 0} (P : X → Type 0) (m n k l : List X) → ((x : X) → Within x m → P x) → ((x : X) → Within x n → P x) → ((x : X) → Within x k → P x → ⊥) → ((x : X) → Within x l → P x → ⊥)

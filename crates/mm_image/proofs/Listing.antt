@@ -18,7 +18,7 @@ use Rattle.mm_tree.specs.Search.{Worded, list_of}
 use Rattle.mm_tree.specs.Trees.{Trees, preorder}
 use Rattle.mm_image.specs.Image.{words, occurrences, counted}
 use Rattle.mm_image.specs.Inside.Cutting.{listed, sized_list}
-use Rattle.mm_image.proofs.WordFacts.{Above, all_above, is_listed, word_is_held, in_order_rises}
+use Rattle.mm_image.specs.Facts.Words.{Above, all_above, is_listed, word_is_held, in_order_rises}
 
 abbrev Map : Type 0
 Map = BTreeMap (List ℕ) (List (List ℤ))

@@ -9,8 +9,7 @@ use Rattle.mm_tree.specs.declared.plain.Kind.{Kind}
 use Rattle.mm_tree.specs.Numbering.{Labelled}
 use Rattle.mm_tree.specs.Validity.{has_valid_parts, is_valid_kind, piece_count}
 use Rattle.mm_image.specs.declared.gathering.Group.{Group}
-use Rattle.mm_image.specs.Content.{content}
-use Rattle.mm_image.specs.Inside.Getting.{IsContent, IsKindOf}
+use Rattle.mm_image.specs.Content.{IsContent, IsKindOf, content}
 use Rattle.mm_image.specs.Inside.Cutting.{join, pieces_of}
 use Rattle.mm_image.specs.Inside.Gathered.{AreGroups, CanBeStored, IsGroup, Tells, as_group}
 use Rattle.mm_image.specs.Facts.Pieces.{count_is, length_mapped}

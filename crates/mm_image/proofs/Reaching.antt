@@ -1,5 +1,5 @@
 -- The chunks of a subtree in a map, and in the image of a forest.
-use Rattle.std.proofs.Common.{inl, inr, ◌≡◌, ◌⊎◌, ℕ, ℤ, zero, suc, ◌+◌, ◌≤◌, Bool, true, false, cond, ◌||◌, IsTrue, List, [], ◌∷◌, ◌++◌, filter, map, length, drop, refl, ap, ap₂, sym, subst, ◌∙◌, Option, Some, None, is_some, option_map, IfSome, Result, Ok, Err, IfOk, IfErr, MatchResult, append-nil, append_assoc, arith}
+use Rattle.std.proofs.Common.{inl, inr, ◌≡◌, ◌⊎◌, ℕ, ℤ, zero, suc, ◌+◌, ◌≤◌, Bool, true, false, cond, IsTrue, List, [], ◌∷◌, ◌++◌, filter, map, length, drop, refl, ap, ap₂, sym, subst, ◌∙◌, Option, Some, None, is_some, option_map, IfSome, Result, Ok, Err, IfOk, IfErr, MatchResult, append-nil, append_assoc, arith}
 use Rattle.std.proofs.lemmas.List.{append_cancel_left}
 use Rattle.std.specs.Prelude.{bytes_eq, flat_map}
 use Rattle.std.specs.List.{range_with_len}
@@ -13,7 +13,7 @@ use Rattle.mm_label.specs.Label.{IsLabel}
 use Rattle.mm_label.specs.Fronts.{Front, Within}
 use Rattle.mm_label.specs.Facts.Fronts.{front_le, front_refl, le_antisym}
 use Rattle.mm_label.specs.Facts.Members.{within_first, within_flat, within_joined, within_second}
-use Rattle.mm_label.specs.Facts.Order.{same_label, label_same, splits}
+use Rattle.mm_label.specs.Facts.Order.{splits}
 use Rattle.mm_host.specs.declared.damage.Damage.{Damage}
 use Rattle.mm_host.specs.declared.damage.Damage.TheVariants as damage
 use Rattle.mm_host.specs.declared.damage.Fault.{Fault}
@@ -21,7 +21,7 @@ use Rattle.mm_host.specs.declared.damage.Fault.TheVariants as fault
 use Rattle.mm_keeper.specs.Entries.{Entries, Entry, IsBelow, Rises, below, has, index_of, rank}
 use Rattle.mm_keeper.specs.Keeping.{Seen}
 use Rattle.mm_tree.specs.declared.node.Node.{Node}
-use Rattle.mm_tree.specs.Edits.{found, has_label, has_node}
+use Rattle.mm_tree.specs.Edits.{found}
 use Rattle.mm_tree.specs.Facts.Formed.{formed}
 use Rattle.mm_tree.specs.Facts.Labels.{node_is_labelled}
 use Rattle.mm_tree.specs.Facts.Nodes.{Stands}
@@ -32,9 +32,9 @@ use Rattle.mm_tree.specs.Validity.{piece_count}
 use Rattle.mm_tree.specs.Forests.{is_well_formed}
 use Rattle.mm_tree.specs.Numbering.{Labelled, node_of}
 use Rattle.mm_tree.specs.Search.{worded}
-use Rattle.mm_tree.specs.Trees.{Tree, Trees, none, node, one, preorder}
+use Rattle.mm_tree.specs.Trees.{Tree, Trees, none, one, preorder}
 use Rattle.mm_image.specs.Facts.LabelOrder.{Ancestry, begins as spelled}
-use Rattle.mm_image.specs.Facts.Naming.{found_stands}
+use Rattle.mm_tree.specs.Facts.Found.{found_stands, some_found, some_node}
 use Rattle.mm_image.specs.Facts.Upto.{UpTo, below_upto, between}
 use Rattle.mm_image.specs.Image.{chunks, chunks_of, counts, image, occurrences}
 use Rattle.mm_image.specs.Content.{piece}
@@ -47,9 +47,9 @@ use Rattle.mm_image.specs.Inside.Running.{Gathers, NamesOdd, Reaches, StopsAt, T
 use Rattle.mm_image.proofs.Determined.{OneLabel, chunk_of, first_chunk, some_pieces}
 use Rattle.mm_image.proofs.KeyFacts.{same_front}
 use Rattle.mm_image.proofs.Groups.{nodes_gathered, same_groups, same_nodes, stored_groups}
-use Rattle.mm_image.proofs.Rising.{counts_headed, occurrences_headed}
-use Rattle.mm_image.specs.Facts.Standing.{is_standing, stands, stands_in}
-use Rattle.mm_image.proofs.Standing.{node_parts, rebuilt_tree, stored_tree}
+use Rattle.mm_image.specs.Facts.Rising.{counts_headed, occurrences_headed}
+use Rattle.mm_image.specs.Facts.Standing.{is_standing, stands, stands_in, stored_tree}
+use Rattle.mm_image.proofs.Standing.{node_parts, rebuilt_tree}
 use Rattle.mm_image.proofs.Walking.{begins_not, begins_of}
 
 -- ---- entries that are sought by a test
@@ -256,31 +256,6 @@ image_run ancestry f t w s =
     ]
 
 -- ---- the node with a label
-
-some_node : (x : List ℤ) (f : Trees Labelled) (p : Labelled) → Within p (preorder f) → p.label ≡ x → has_node x f ≡ true
-some_node x none p w e = absurd w
-some_node x (node d inner rest) p w e = elim w [
-  | inl h ↦ ap (λ (b : Bool). b || (has_node x inner || has_node x rest)) (label_same d.label x (sym (ap node_label h) ∙ e))
-  | inr h ↦ elim (within_joined p (preorder inner) (preorder rest) h) [
-    | inl k ↦ or_second (has_label x d) (has_node x inner) (has_node x rest) (inl (some_node x inner p k e))
-    | inr k ↦ or_second (has_label x d) (has_node x inner) (has_node x rest) (inr (some_node x rest p k e))
-  ]
-]
-  where
-    or_second : (a b c : Bool) → (b ≡ true) ⊎ (c ≡ true) → (a || (b || c)) ≡ true
-    or_second true b c h = refl
-    or_second false true c h = refl
-    or_second false false c h = elim h [ inl k ↦ absurd cc | inr k ↦ k ]
-
-some_found : (x : List ℤ) (f : Trees Labelled) → has_node x f ≡ true → (t : Tree Labelled) × (found x f ≡ Some t)
-some_found x none h = absurd cc
-some_found x (node d inner rest) h = by (has_label x d) (has_node x inner) refl h (some_found x inner) (some_found x rest)
-  where
-    by : (a b : Bool) → has_node x inner ≡ b → (a || (b || has_node x rest)) ≡ true → (has_node x inner ≡ true → (t : Tree Labelled) × (found x inner ≡ Some t)) → (has_node x rest ≡ true → (t : Tree Labelled) × (found x rest ≡ Some t))
-        → (t : Tree Labelled) × (cond a (Some (d, inner)) (cond b (found x inner) (found x rest)) ≡ Some t)
-    by true b q h f g = ((d, inner), refl)
-    by false true q h f g = f q
-    by false false q h f g = g h
 
 -- the map holds the first chunk of a label exactly where a node has it
 pub held_found : OneLabel → (x : List ℤ) (f : Trees Labelled) → IsLabel x → IsTrue (is_well_formed f) → has (image f) (chunk_key x 0) ≡ true → (t : Tree Labelled) × (found x f ≡ Some t)

@@ -1,24 +1,22 @@
 -- Trees that may stand at a label.
-use Rattle.std.proofs.Common.{inl, inr, ◌≡◌, ℕ, ℤ, ◌≤◌, Bool, true, false, cond, List, [], ◌∷◌, ◌++◌, map, reverse, length, refl, ap, ap₂, sym, subst, ◌∙◌, Option, Some, None, append-nil, arith}
+use Rattle.std.proofs.Common.{inl, inr, ◌≡◌, ℕ, ℤ, ◌≤◌, Bool, true, false, cond, List, [], ◌∷◌, ◌++◌, map, reverse, length, refl, ap, ap₂, sym, subst, ◌∙◌, Some, None, append-nil, arith}
 use Rattle.std.specs.Prelude.{flat_map, nat_le}
-use Rattle.std.specs.Cmp.Lexicographic.{pointwise, slice_cmp}
-use Rattle.std.specs.Ordering.{int_cmp, int_eq}
+use Rattle.std.specs.Cmp.Lexicographic.{pointwise}
+use Rattle.std.specs.Ordering.{int_eq}
 use Rattle.std.proofs.lemmas.Bool.{and_from, and_parts}
 use Rattle.std.proofs.lemmas.Bool.Decides.{nat_tests}
 use Rattle.std.proofs.lemmas.List.{reverse-append, reverse-reverse}
 use Rattle.mm_label.specs.Bytes.{bytes_of}
-use Rattle.mm_label.specs.Label.{IsLabel, all_in_range, is_segment}
-use Rattle.mm_label.specs.Fronts.{Apart, IsChild, Label, Le, Within, is_front}
-use Rattle.mm_label.specs.Facts.Children.{child_is, le_lt, siblings_apart}
-use Rattle.mm_label.specs.Facts.Fronts.{front_le, front_refl, is_front_of}
-use Rattle.mm_label.specs.Facts.Members.{within_first, within_joined, within_second}
-use Rattle.mm_label.specs.Facts.Order.{before_lt, label_same, lt_is, same_label}
+use Rattle.mm_label.specs.Label.{IsLabel, all_in_range}
+use Rattle.mm_label.specs.Fronts.{Label, Within, is_front}
+use Rattle.mm_label.specs.Facts.Fronts.{is_front_of}
+use Rattle.mm_label.specs.Facts.Members.{within_first, within_second}
+use Rattle.mm_label.specs.Facts.Order.{label_same, same_label}
 use Rattle.mm_tree.specs.declared.node.Node.{Node}
-use Rattle.mm_tree.specs.Facts.Formed.{front_splits, parts}
-use Rattle.mm_tree.specs.Facts.Labels.{labels_are}
+use Rattle.mm_tree.specs.Facts.Formed.{labelled_formed}
 use Rattle.mm_tree.specs.Facts.Rebuild.{rebuilt}
-use Rattle.mm_tree.specs.Formed.{ApartFrom, Formed, node_label}
-use Rattle.mm_tree.specs.Forests.{are_labelled, has_valid_kind, segment_below}
+use Rattle.mm_tree.specs.Formed.{Formed, node_label}
+use Rattle.mm_tree.specs.Forests.{are_labelled, has_valid_kind}
 use Rattle.mm_tree.specs.Numbering.{Labelled, forest_of, has_room, node_of}
 use Rattle.mm_tree.specs.Rebuild.{behind, below, rebuild, take_in}
 use Rattle.mm_tree.specs.Trees.{Tree, Trees, every, has_some, node, none, one, preorder}
@@ -31,31 +29,8 @@ use Rattle.mm_image.specs.Inside.Placing.{fits_place, is_placed}
 use Rattle.mm_image.specs.Inside.Running.{TreeAt}
 use Rattle.mm_image.proofs.Determined.{OneLabel}
 use Rattle.mm_image.proofs.Groups.{nodes_gathered, same_groups, same_nodes, stored_groups}
-use Rattle.mm_image.specs.Facts.Members.{node_is_valid}
 use Rattle.mm_image.proofs.Trees.{rebuilt_nodes}
-use Rattle.mm_image.specs.Facts.Standing.{Stands, is_standing, stands}
-
--- ---- labelled siblings are formed
-
-roots_after : (y s t : Label) (rest : Trees Labelled) → is_segment s ≡ true → Le s t → are_labelled y (Some t) rest ≡ true → ApartFrom node_label (y ++ s) rest
-roots_after y s t none g l a = tt
-roots_after y s t (node e inner rest) g l a =
-    let p = parts y (Some t) e inner rest a in
-    let u = segment_below y e.label in
-    let m = le_lt s t u l (before_lt t u (lt_is (slice_cmp int_cmp t u) p.above)) in
-    (subst (Apart (y ++ s)) (sym (front_splits y e.label p.front)) (siblings_apart y s u g p.whole m), roots_after y s u rest g m.0 p.after)
-
-pub labelled_formed : (y : Label) (left : Option Label) (forest : Trees Labelled) → are_labelled y left forest ≡ true → Formed node_label y forest
-labelled_formed y left none a = tt
-labelled_formed y left (node e inner rest) a =
-    let p = parts y left e inner rest a in
-    let joined = front_splits y e.label p.front in
-    let s = segment_below y e.label in (
-      subst (IsChild y) (sym joined) (child_is y s p.whole),
-      labelled_formed e.label None inner p.below,
-      subst (λ (x : Label). ApartFrom node_label x rest) (sym joined) (roots_after y s s rest p.whole (front_le s s (front_refl s)) p.after),
-      labelled_formed y (Some s) rest p.after,
-    )
+use Rattle.mm_image.specs.Facts.Standing.{Stands, is_standing, stands, stored_label, stored_tree}
 
 -- ---- tests of all nodes
 
@@ -76,29 +51,9 @@ every_with p q (node a inner rest) h e =
     (and_from (every q inner) _ (every_with p q inner (λ d w b k. h d (inr (within_first d (preorder inner) (preorder rest) w)) b k) t.0)
     (every_with p q rest (λ d w b k. h d (inr (within_second d (preorder inner) (preorder rest) w)) b k) t.1))
 
-stored_of : (es : List Labelled) → ((d : Labelled) → Within d es → IsLabel d.label) → ((d : Labelled) → Within d es → is_valid_kind d.kind ≡ true) → CanBeStored es
-stored_of [] l k = tt
-stored_of (e ∷ es) l k = (l e (inl refl), k e (inl refl), stored_of es (λ d w. l d (inr w)) (λ d w. k d (inr w)))
-
-pub stored_label : (es : List Labelled) → CanBeStored es → (d : Labelled) → Within d es → IsLabel d.label
-stored_label [] s d w = absurd w
-stored_label (e ∷ es) s d w = elim w [ inl h ↦ subst (λ (z : Labelled). IsLabel z.label) (sym h) s.0 | inr h ↦ stored_label es s.2 d h ]
-
 stored_kind : (es : List Labelled) → CanBeStored es → (d : Labelled) → Within d es → is_valid_kind d.kind ≡ true
 stored_kind [] s d w = absurd w
 stored_kind (e ∷ es) s d w = elim w [ inl h ↦ subst (λ (z : Labelled). is_valid_kind z.kind ≡ true) (sym h) s.1 | inr h ↦ stored_kind es s.2 d h ]
-
-pub stored_tree : (label : List ℤ) (t : Tree Labelled) → IsLabel label → Stands label t → CanBeStored (preorder (one t))
-stored_tree label t g s = stored_of (preorder (one t)) labels (λ d w. node_is_valid (one t) s.kinds d w)
-  where
-    labels : (d : Labelled) → Within d (preorder (one t)) → IsLabel d.label
-    labels d w = elim w [
-      | inl h ↦ subst (λ (z : Labelled). IsLabel z.label) (sym h) (subst IsLabel s.same g)
-      | inr h ↦ elim (within_joined d (preorder t.1) [] h) [
-        | inl k ↦ labels_are label None t.1 d s.labels (and_parts (every has_room t.1) _ (and_parts (has_room t.0 (has_some t.1)) _ s.room).1).0 k
-        | inr k ↦ absurd k
-      ]
-    ]
 
 -- ---- it is rebuilt from its nodes
 

@@ -1,10 +1,10 @@
 -- The content of a node in bytes, the pieces in which it is kept, and what is read out of it.
-use Rattle.std.specs.Prelude.{ℕ, ◌*◌, ◌+◌, ◌==◌, List, [], ◌∷◌, ◌++◌, length, take, drop, flat_map, Option, Some, None, codes, ◌&&◌, nat_le, if◌then◌else◌}
+use Rattle.std.specs.Prelude.{ℕ, ◌≡◌, true, ◌*◌, ◌+◌, ◌==◌, List, [], ◌∷◌, ◌++◌, length, take, drop, flat_map, Option, Some, None, codes, ◌&&◌, nat_le, if◌then◌else◌}
 use Rattle.byteorder.specs.Endian.{big_bytes, big_number}
 use Rattle.mm_tree.specs.declared.plain.Attribute.{Attribute}
 use Rattle.mm_tree.specs.declared.plain.Kind.{Kind}
 use Rattle.mm_tree.specs.declared.plain.Kind.TheVariants.{Element, Words}
-use Rattle.mm_tree.specs.Validity.{is_node_name}
+use Rattle.mm_tree.specs.Validity.{has_valid_parts, is_node_name}
 
 -- bytes behind their number, in so many bytes
 abbrev pub sized : ℕ → List ℕ → List ℕ
@@ -18,6 +18,16 @@ attribute_bytes a = sized 2 a.name ++ sized 4 a.value
 abbrev pub content : Kind → List ℕ
 content (Element name attributes) = 69 ∷ sized 2 name ++ (big_bytes 4 (length attributes) ++ flat_map attribute_bytes attributes)
 content (Words text) = 84 ∷ text
+
+-- the bytes are the content, and the kind's parts are valid
+pub record IsContent (bytes : List ℕ) (kind : Kind) : Type 0 where
+  pub is : bytes ≡ content kind
+  pub good : has_valid_parts kind ≡ true
+
+-- the kind of which these are the whole content, if they are that of one
+abbrev pub IsKindOf : List ℕ → Option Kind → Type 0
+IsKindOf bytes None = (kind : Kind) → IsContent bytes kind → ⊥
+IsKindOf bytes (Some kind) = IsContent bytes kind
 
 -- the most bytes of a piece
 abbrev pub piece_limit : ℕ

@@ -8,3 +8,7 @@ pub mod Grounds
 pub mod Naming
 pub mod Pieces
 pub mod Standing
+pub mod KeyOrder
+pub mod Words
+pub mod Rising
+pub mod Results

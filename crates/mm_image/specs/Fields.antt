@@ -78,6 +78,10 @@ is_wrong Short = false
 is_wrong Wrong = true
 is_wrong (Right x rest) = false
 
+-- with these bytes, no field of a content is whole and wrong
+abbrev pub may_stand : List ℕ → Bool
+may_stand bytes = not (is_wrong (standing bytes))
+
 abbrev pub is_text : List ℕ → Bool
 is_text text = are_chars text && not (is_blank text)
 

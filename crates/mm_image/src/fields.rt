@@ -1,9 +1,10 @@
 //! The content of a node read from its bytes.
 
-ghost use Rattle.std.specs.Prelude.{◌≡◌, ◌∷◌, [], IfOk};
+ghost use Rattle.std.specs.Prelude.{◌≡◌, ◌∷◌, [], IfOk, not};
 ghost use Rattle.mm_tree.specs.declared.plain.Kind.TheVariants.{Words};
-ghost use Rattle.mm_image.specs.Fields.{Right, attributes_at, bytes_at, ended, element_at, kind_in, kind_told, name_at, number_at, value_at};
-ghost use Rattle.mm_image.specs.Inside.Getting.{Gets, IsKindOf, Lends};
+ghost use Rattle.mm_image.specs.Content.{IsKindOf};
+ghost use Rattle.mm_image.specs.Fields.{Right, attributes_at, bytes_at, ended, element_at, is_wrong, kind_in, kind_told, may_stand, name_at, number_at, value_at};
+ghost use Rattle.mm_image.specs.Inside.Getting.{Ends, Gets, GetsIfRoom, Lends};
 
 use byteorder::{BigEndian, ByteOrder};
 use mm_list::Items;
@@ -18,54 +19,76 @@ const TEXT_MARK: u8 = b'T';
 /// The first byte of an element's content.
 const ELEMENT_MARK: u8 = b'E';
 
-/// A number of two bytes.
-fn two_at(bytes: &[u8]) -> Option<(u16, &[u8])>
-    ensures { Gets result (number_at 2 bytes.now) }
-{
-    let (field, rest) = bytes.split_at_checked(2)?;
-    Some((BigEndian::read_u16(field), rest))
+/// Why no field stands at the front of bytes: it isn't whole yet, or it is whole and wrong; or there was no memory.
+#[derive(Clone, Copy, Debug)]
+enum Lack {
+    Short,
+    Wrong,
+    Memory,
 }
 
-/// A number of four bytes.
-fn four_at(bytes: &[u8]) -> Option<(u32, &[u8])>
-    ensures { Gets result (number_at 4 bytes.now) }
-{
-    let (field, rest) = bytes.split_at_checked(4)?;
-    Some((BigEndian::read_u32(field), rest))
+impl From<AllocError> for Lack {
+    ghost use Rattle.std.specs.Prelude.{◌≡◌};
+    ghost use Rattle.mm_image.specs.declared.fields.Lack.TheVariants.{Memory};
+
+    ghost from_gives = { λ _ lack. lack ≡ Memory };
+
+    fn from(_error: AllocError) -> Lack {
+        Lack::Memory
+    }
 }
 
 /// So many bytes.
-fn bytes_at(count: usize, bytes: &[u8]) -> Option<(&[u8], &[u8])>
+fn bytes_at(count: usize, bytes: &[u8]) -> Result<(&[u8], &[u8]), Lack>
     ensures { Lends result (bytes_at count bytes.now) }
 {
-    bytes.split_at_checked(count)
+    match bytes.split_at_checked(count) {
+        Some(parts) => Ok(parts),
+        None => Err(Lack::Short),
+    }
+}
+
+/// A number of two bytes.
+fn two_at(bytes: &[u8]) -> Result<(u16, &[u8]), Lack>
+    ensures { Gets result (number_at 2 bytes.now) }
+{
+    let (field, rest) = bytes_at(2, bytes)?;
+    Ok((BigEndian::read_u16(field), rest))
+}
+
+/// A number of four bytes.
+fn four_at(bytes: &[u8]) -> Result<(u32, &[u8]), Lack>
+    ensures { Gets result (number_at 4 bytes.now) }
+{
+    let (field, rest) = bytes_at(4, bytes)?;
+    Ok((BigEndian::read_u32(field), rest))
 }
 
 /// A name behind its length.
-fn name_at(bytes: &[u8]) -> Option<(&str, &[u8])>
+fn name_at(bytes: &[u8]) -> Result<(&str, &[u8]), Lack>
     ensures { Lends result (name_at [] bytes.now) }
 {
     let (size, rest) = two_at(bytes)?;
     let size = size as usize;
     if size == 0 || size > NAME_LIMIT {
-        return None;
+        return Err(Lack::Wrong);
     }
     let (name, rest) = bytes_at(size, rest)?;
     match str::from_utf8(name) {
-        Ok(name) if is_short_name(name) => Some((name, rest)),
-        _ => None,
+        Ok(name) if is_short_name(name) => Ok((name, rest)),
+        _ => Err(Lack::Wrong),
     }
 }
 
 /// A value behind its length.
-fn value_at(bytes: &[u8]) -> Option<(&str, &[u8])>
+fn value_at(bytes: &[u8]) -> Result<(&str, &[u8]), Lack>
     ensures { Lends result (value_at bytes.now) }
 {
     let (size, rest) = four_at(bytes)?;
     let (value, rest) = bytes_at(size as usize, rest)?;
     match str::from_utf8(value) {
-        Ok(value) if are_chars(value) => Some((value, rest)),
-        _ => None,
+        Ok(value) if are_chars(value) => Ok((value, rest)),
+        _ => Err(Lack::Wrong),
     }
 }
 
@@ -78,50 +101,38 @@ fn attribute(alloc: Global, name: &str, value: &str) -> Result<Attribute, AllocE
 }
 
 /// So many attributes, no two of which have one name.
-fn attributes_at(
-    alloc: Global,
-    count: u32,
-    bytes: &[u8],
-) -> Result<Option<(Attributes, &[u8])>, AllocError>
-    ensures { IfOk result (λ r. Gets r (attributes_at count [] bytes.now)) }
+fn attributes_at(alloc: Global, count: u32, bytes: &[u8]) -> Result<(Attributes, &[u8]), Lack>
+    ensures { GetsIfRoom result (attributes_at count [] bytes.now) }
 {
     let mut seen = BTreeMap::new(alloc);
     let mut attributes = Items::new(alloc);
     let mut rest = bytes;
     for _ in 0..count {
-        let Some((name, behind)) = name_at(rest) else {
-            return Ok(None);
-        };
-        if seen.insert(name, ())?.is_some() {
-            return Ok(None);
+        let (name, behind) = name_at(rest)?;
+        match seen.insert(name, ()) {
+            Ok(None) => {}
+            Ok(Some(())) => return Err(Lack::Wrong),
+            Err(_) => return Err(Lack::Memory),
         }
-        let Some((value, behind)) = value_at(behind) else {
-            return Ok(None);
-        };
+        let (value, behind) = value_at(behind)?;
         attributes.push(attribute(alloc, name, value)?)?;
         rest = behind;
     }
-    Ok(Some((attributes, rest)))
+    Ok((attributes, rest))
 }
 
 /// An element from its name on, where no bytes follow it.
-fn element_in(alloc: Global, bytes: &[u8]) -> Result<Option<Kind>, AllocError>
-    ensures { IfOk result (λ kind. kind ≡ kind_told (ended (element_at bytes.now))) }
+fn element_in(alloc: Global, bytes: &[u8]) -> Result<Kind, Lack>
+    ensures { Ends result (ended (element_at bytes.now)) }
 {
-    let Some((name, rest)) = name_at(bytes) else {
-        return Ok(None);
-    };
-    let Some((count, rest)) = four_at(rest) else {
-        return Ok(None);
-    };
-    let Some((attributes, rest)) = attributes_at(alloc, count, rest)? else {
-        return Ok(None);
-    };
+    let (name, rest) = name_at(bytes)?;
+    let (count, rest) = four_at(rest)?;
+    let (attributes, rest) = attributes_at(alloc, count, rest)?;
     if !rest.is_empty() {
-        return Ok(None);
+        return Err(Lack::Wrong);
     }
     let name = Text::from_str(alloc, name)?;
-    Ok(Some(Kind::Element { name, attributes }))
+    Ok(Kind::Element { name, attributes })
 }
 
 /// A text, which is not blank.
@@ -137,6 +148,17 @@ fn text_in(alloc: Global, bytes: &[u8]) -> Result<Option<Kind>, AllocError>
     }
 }
 
+/// The element that bytes behind its mark are, from its name on; None where they are none.
+fn element_of(alloc: Global, bytes: &[u8]) -> Result<Option<Kind>, AllocError>
+    ensures { IfOk result (λ kind. kind ≡ kind_told (ended (element_at bytes.now))) }
+{
+    match element_in(alloc, bytes) {
+        Ok(kind) => Ok(Some(kind)),
+        Err(Lack::Short | Lack::Wrong) => Ok(None),
+        Err(Lack::Memory) => Err(AllocError),
+    }
+}
+
 /// The kind of which the bytes are the content, from their first one on.
 fn kind_in(alloc: Global, content: &[u8]) -> Result<Option<Kind>, AllocError>
     ensures { IfOk result (λ kind. kind ≡ kind_in content.now) }
@@ -147,7 +169,7 @@ fn kind_in(alloc: Global, content: &[u8]) -> Result<Option<Kind>, AllocError>
     if *mark == TEXT_MARK {
         text_in(alloc, rest)
     } else if *mark == ELEMENT_MARK {
-        element_in(alloc, rest)
+        element_of(alloc, rest)
     } else {
         Ok(None)
     }
@@ -155,7 +177,35 @@ fn kind_in(alloc: Global, content: &[u8]) -> Result<Option<Kind>, AllocError>
 
 /// The kind of which these are the whole content; None where they are that of none.
 pub fn kind_of(alloc: Global, content: &[u8]) -> Result<Option<Kind>, AllocError>
-    ensures { IfOk result (IsKindOf content.now) }
+    ensures told { IfOk result (λ kind. kind ≡ kind_in content.now) }
+    ensures whole { IfOk result (IsKindOf content.now) }
 {
     kind_in(alloc, content)
+}
+
+/// Whether no field of an element that begins so, from its name on, is whole and wrong.
+fn may_be_element(alloc: Global, bytes: &[u8]) -> Result<bool, AllocError>
+    ensures { IfOk result (λ may. may ≡ not (is_wrong (ended (element_at bytes.now)))) }
+{
+    match element_in(alloc, bytes) {
+        Ok(_) | Err(Lack::Short) => Ok(true),
+        Err(Lack::Wrong) => Ok(false),
+        Err(Lack::Memory) => Err(AllocError),
+    }
+}
+
+/// Whether a content may begin with these bytes: no field of it is whole and wrong.
+pub fn may_stand(alloc: Global, content: &[u8]) -> Result<bool, AllocError>
+    ensures { IfOk result (λ may. may ≡ may_stand content.now) }
+{
+    let Some((mark, rest)) = content.split_first() else {
+        return Ok(true);
+    };
+    if *mark == TEXT_MARK {
+        Ok(true)
+    } else if *mark == ELEMENT_MARK {
+        may_be_element(alloc, rest)
+    } else {
+        Ok(false)
+    }
 }

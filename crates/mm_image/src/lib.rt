@@ -18,8 +18,10 @@ mod subtrees;
 
 pub use bringing::{entries, word_counts};
 pub use entry::{Entries, Entry};
+pub use fields::{kind_of, may_stand};
 pub use key::{chunk_key, count_key, occurrence_key};
 pub use naming::node_name;
 pub use parsed::{Parsed, parse_key};
+pub use pieces::PIECE_LIMIT;
 pub use reading::{count_of, name_of};
 pub use subtrees::subtree;

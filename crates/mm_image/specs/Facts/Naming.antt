@@ -1,16 +1,14 @@
 -- The name of a node, out of the image of its forest.
-use Rattle.std.proofs.Common.{inl, inr, ◌≡◌, ℤ, Bool, true, false, cond, IsTrue, List, [], refl, ap, sym, subst, ◌∙◌, Option, Some, None}
+use Rattle.std.proofs.Common.{◌≡◌, ℤ, IsTrue, List, [], refl, ap, sym, subst, ◌∙◌, Option, Some, None}
 use Rattle.std.proofs.lemmas.Bool.{and_parts}
 use Rattle.mm_label.specs.Fronts.{Within}
-use Rattle.mm_label.specs.Facts.Members.{within_first, within_second}
-use Rattle.mm_label.specs.Facts.Order.{same_label}
 use Rattle.mm_keeper.specs.Entries.{Entry, Entries, IsSorted, index_of}
-use Rattle.mm_tree.specs.Edits.{found, has_label, has_node}
-use Rattle.mm_tree.specs.Facts.Nodes.{Stands}
+use Rattle.mm_tree.specs.Edits.{found}
+use Rattle.mm_tree.specs.Facts.Nodes.{stands_among}
 use Rattle.mm_tree.specs.Forests.{are_labelled, has_valid_kind, is_well_formed}
 use Rattle.mm_tree.specs.Hits.{name_of}
 use Rattle.mm_tree.specs.Numbering.{Labelled, has_room}
-use Rattle.mm_tree.specs.Trees.{Tree, Trees, every, none, node, preorder}
+use Rattle.mm_tree.specs.Trees.{Tree, Trees, every, preorder}
 use Rattle.mm_image.specs.Content.{name_in, piece}
 use Rattle.mm_image.specs.Facts.Finding.{IsAt, at_found, same_key}
 use Rattle.mm_image.specs.Facts.Members.{chunk_in, node_is_valid}
@@ -19,29 +17,7 @@ use Rattle.mm_image.specs.Keys.{chunk_key}
 use Rattle.mm_image.specs.Laws.{FirstPieceNames}
 use Rattle.mm_image.specs.Looking.{entry_at}
 use Rattle.mm_image.specs.Naming.{name_of_entry, stored_name}
-
-pub found_stands : (x : List ℤ) (f : Trees Labelled) (t : Tree Labelled) → found x f ≡ Some t → Stands t.0 t.1 f × (t.0.label ≡ x)
-found_stands x none t e = absurd cc
-found_stands x (node d inner rest) t e = by (has_label x d) refl (has_node x inner) e (found_stands x inner t) (found_stands x rest t)
-  where
-    by : (a : Bool) → has_label x d ≡ a → (b : Bool) → cond a (Some (d, inner)) (cond b (found x inner) (found x rest)) ≡ Some t → (found x inner ≡ Some t → Stands t.0 t.1 inner × (t.0.label ≡ x)) → (found x rest ≡ Some t → Stands t.0 t.1 rest × (t.0.label ≡ x))
-        → Stands t.0 t.1 (node d inner rest) × (t.0.label ≡ x)
-    by true h b e f g =
-        let q : ◌≡◌ {A = Tree Labelled} (d, inner) t = cc in
-        subst (λ (z : Tree Labelled). Stands z.0 z.1 (node d inner rest) × (z.0.label ≡ x)) q (inl (refl, refl), same_label d.label x h)
-    by false h true e f g = let r = f e in (inr (inl r.0), r.1)
-    by false h false e f g = let r = g e in (inr (inr r.0), r.1)
-
--- it is one of the nodes
-pub stands_among : (f : Trees Labelled) (d : Labelled) (low : Trees Labelled) → Stands d low f → Within d (preorder f)
-stands_among none d low h = absurd h
-stands_among (node e inner rest) d low h = elim h [
-  | inl k ↦ inl k.0
-  | inr k ↦ elim k [
-    | inl q ↦ inr (within_first d (preorder inner) (preorder rest) (stands_among inner d low q))
-    | inr q ↦ inr (within_second d (preorder inner) (preorder rest) (stands_among rest d low q))
-  ]
-]
+use Rattle.mm_tree.specs.Facts.Found.{found_stands}
 
 -- the name of a node of the forest
 pub named_there : FirstPieceNames → (m : Entries) (f : Trees Labelled) → IsTrue (is_well_formed f) → m ≡ image f → IsSorted m → (d : Labelled) → Within d (preorder f) → stored_name m d.label ≡ Some (name_of d.kind)

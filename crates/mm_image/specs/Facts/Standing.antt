@@ -1,21 +1,25 @@
--- Trees that may stand at a label, and that each subtree of a well-formed forest may.
-use Rattle.std.proofs.Common.{inl, inr, ◌≡◌, ℕ, ℤ, ◌+◌, ◌≤◌, Bool, true, false, ◌||◌, List, [], refl, ap, sym, subst, ◌∙◌, Option, Some, None, arith}
+-- Trees that may stand at a label: each subtree of a well-formed forest may, and what may can be stored.
+use Rattle.std.proofs.Common.{inl, inr, ◌≡◌, ℕ, ℤ, ◌+◌, ◌≤◌, Bool, true, false, ◌||◌, List, [], ◌∷◌, refl, ap, sym, subst, ◌∙◌, Option, Some, None, arith}
 use Rattle.std.specs.Prelude.{IsTrue, max, nat_le, nat_lt}
 use Rattle.std.specs.Cmp.Lexicographic.{pointwise}
 use Rattle.std.specs.Ordering.{int_eq}
 use Rattle.std.proofs.lemmas.Bool.{and_from, and_parts}
 use Rattle.std.proofs.lemmas.Bool.Decides.{nat_tests}
-use Rattle.mm_label.specs.Fronts.{Label}
-use Rattle.mm_label.specs.Label.{level}
+use Rattle.mm_label.specs.Fronts.{Label, Within}
+use Rattle.mm_label.specs.Label.{level, IsLabel}
 use Rattle.mm_label.specs.Facts.Levels.{level_joined, segment_level}
 use Rattle.mm_label.specs.Facts.Order.{label_same, same_label}
 use Rattle.mm_tree.specs.Facts.Formed.{front_splits, parts}
 use Rattle.mm_tree.specs.Facts.Nodes.{Stands as StandsIn}
 use Rattle.mm_tree.specs.Forests.{are_elements, are_labelled, has_valid_kind, is_well_formed, segment_below}
 use Rattle.mm_tree.specs.Numbering.{Labelled, has_room}
-use Rattle.mm_tree.specs.Trees.{Tree, Trees, every, has_some, levels, node, none, one}
-use Rattle.mm_tree.specs.Validity.{is_element}
+use Rattle.mm_tree.specs.Trees.{Tree, Trees, every, has_some, levels, node, none, one, preorder}
+use Rattle.mm_tree.specs.Validity.{is_element, is_valid_kind}
 use Rattle.mm_image.specs.Subtrees.{is_shallow, is_subtree}
+use Rattle.mm_label.specs.Facts.Members.{within_joined}
+use Rattle.mm_tree.specs.Facts.Labels.{labels_are}
+use Rattle.mm_image.specs.Facts.Members.{node_is_valid}
+use Rattle.mm_image.specs.Inside.Gathered.{CanBeStored}
 
 -- ---- the parts of a subtree
 
@@ -144,3 +148,25 @@ stands_in f t w h =
   where
     limit : (n : ℕ) → nat_le n 200 ≡ true → 0 + n ≤ 200
     limit n h = grind (arith, nat_tests)
+
+-- ---- its nodes can be stored
+
+stored_of : (es : List Labelled) → ((d : Labelled) → Within d es → IsLabel d.label) → ((d : Labelled) → Within d es → is_valid_kind d.kind ≡ true) → CanBeStored es
+stored_of [] l k = tt
+stored_of (e ∷ es) l k = (l e (inl refl), k e (inl refl), stored_of es (λ d w. l d (inr w)) (λ d w. k d (inr w)))
+
+pub stored_label : (es : List Labelled) → CanBeStored es → (d : Labelled) → Within d es → IsLabel d.label
+stored_label [] s d w = absurd w
+stored_label (e ∷ es) s d w = elim w [ inl h ↦ subst (λ (z : Labelled). IsLabel z.label) (sym h) s.0 | inr h ↦ stored_label es s.2 d h ]
+
+pub stored_tree : (label : List ℤ) (t : Tree Labelled) → IsLabel label → Stands label t → CanBeStored (preorder (one t))
+stored_tree label t g s = stored_of (preorder (one t)) labels (λ d w. node_is_valid (one t) s.kinds d w)
+  where
+    labels : (d : Labelled) → Within d (preorder (one t)) → IsLabel d.label
+    labels d w = elim w [
+      | inl h ↦ subst (λ (z : Labelled). IsLabel z.label) (sym h) (subst IsLabel s.same g)
+      | inr h ↦ elim (within_joined d (preorder t.1) [] h) [
+        | inl k ↦ labels_are label None t.1 d s.labels (and_parts (every has_room t.1) _ (and_parts (has_room t.0 (has_some t.1)) _ s.room).1).0 k
+        | inr k ↦ absurd k
+      ]
+    ]

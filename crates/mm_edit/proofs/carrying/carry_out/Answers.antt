@@ -1,5 +1,5 @@
 use Rattle.std.proofs.Common.{◌≡◌, ◌∙◌, ap}
-use Rattle.mm_image.proofs.Results.{on_ok}
+use Rattle.mm_image.specs.Facts.Results.{on_ok}
 use Rattle.mm_edit.specs.Difference.{carried_out, gone, keys, put_all, without_all}
 use Rattle.mm_edit.proofs.Leading.{difference_leads}
 use Rattle.mm_edit.proofs.carrying.carry_out.Goals as goal

@@ -1,6 +1,6 @@
 use Rattle.mm_tree.specs.Numbering.{node_of}
 use Rattle.mm_tree.specs.Trees.{tree_of}
-use Rattle.mm_tree.proofs.LoadFacts.{label_fits}
+use Rattle.mm_tree.specs.Facts.Labels.{label_fits}
 use Rattle.mm_edit.proofs.Numbered.{nodes_same, numbered_sorted, numbers_so, room_all, valid_all}
 use Rattle.mm_edit.proofs.planting.numbered.Goals as goal
 

@@ -1,7 +1,7 @@
 use Rattle.std.proofs.Common.{◌∙◌, ◌&&◌, refl, ap, sym, Bool, None, []}
 use Rattle.std.proofs.lemmas.Result.{err_from_is_err_and}
 use Rattle.mm_tree.specs.Edits.{gap, is_inside}
-use Rattle.mm_tree.proofs.EditFacts.{absent_insert, leaf_insert, placed_insert}
+use Rattle.mm_tree.specs.Facts.Refusals.{absent_insert, leaf_insert, placed_insert}
 use Rattle.mm_edit.proofs.Targeting.{target_told, unblamed}
 use Rattle.mm_edit.proofs.planting.site_for.Goals as goal
 

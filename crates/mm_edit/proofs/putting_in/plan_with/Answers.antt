@@ -7,7 +7,7 @@ use Rattle.mm_tree.specs.Trees.{Trees, one}
 use Rattle.mm_image.specs.Ground.{HoldsImage}
 use Rattle.mm_image.specs.Image.{entries_of, image}
 use Rattle.mm_image.specs.Keyed.{keyed}
-use Rattle.mm_image.proofs.Results.{on_ok}
+use Rattle.mm_image.specs.Facts.Results.{on_ok}
 use Rattle.mm_edit.specs.Difference.{IsDifference}
 use Rattle.mm_edit.specs.Inside.Changes.{Becomes, changes}
 use Rattle.mm_edit.specs.Inside.Counting.{BlamesCounts, counts_held, counts_left}

@@ -4,7 +4,7 @@ use Rattle.mm_keeper.specs.Entries.{Entries}
 use Rattle.mm_tree.specs.Numbering.{forest_of}
 use Rattle.mm_tree.specs.Search.{worded}
 use Rattle.mm_image.specs.declared.entry.Entry.{Entry}
-use Rattle.mm_image.specs.Image.{chunks, occurrences}
+use Rattle.mm_image.specs.Image.{chunks}
 use Rattle.mm_image.specs.Inside.Cutting.{listed}
 use Rattle.mm_image.specs.Keyed.{keyed}
 use Rattle.mm_image.proofs.Listing.{all_listed}

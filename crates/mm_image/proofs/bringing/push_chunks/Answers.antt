@@ -2,7 +2,7 @@ use Rattle.std.proofs.Common.{◌≤◌, ◌++◌, ◌∙◌, List, ℕ, ap, len
 use Rattle.mm_keeper.specs.Entries.{Entries}
 use Rattle.mm_image.specs.Inside.Cutting.{numbered}
 use Rattle.mm_image.specs.Keyed.{keyed}
-use Rattle.mm_image.proofs.Results.{on_ok}
+use Rattle.mm_image.specs.Facts.Results.{on_ok}
 use Rattle.mm_image.specs.Facts.Pieces.{pieces_few, chunks_are}
 use Rattle.mm_image.proofs.ChunkFacts.{valid_parts}
 use Rattle.mm_image.proofs.bringing.push_chunks.Goals as goal

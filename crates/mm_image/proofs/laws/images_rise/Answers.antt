@@ -1,4 +1,4 @@
-use Rattle.mm_image.proofs.Rising.{images_rise}
+use Rattle.mm_image.specs.Facts.Rising.{images_rise}
 use Rattle.mm_image.proofs.laws.images_rise.Goals as goal
 
 pub returns : goal.returns

@@ -1,5 +1,5 @@
 use Rattle.std.proofs.Common.{refl}
-use Rattle.mm_image.proofs.KeyOrder.{chunk_order, occurrence_order}
+use Rattle.mm_image.specs.Facts.KeyOrder.{chunk_order, occurrence_order}
 use Rattle.mm_image.proofs.laws.key_order.Goals as goal
 
 pub returns : goal.returns

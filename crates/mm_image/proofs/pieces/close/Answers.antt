@@ -3,7 +3,7 @@ use Rattle.std.proofs.lemmas.List.{append-nil}
 use Rattle.mm_image.specs.Content.{piece_limit}
 use Rattle.mm_image.specs.Inside.Cutting.{AreFull, join}
 use Rattle.mm_image.proofs.PieceFacts.{join_push, full_push}
-use Rattle.mm_image.proofs.Results.{on_ok, either}
+use Rattle.mm_image.specs.Facts.Results.{on_ok, either}
 use Rattle.mm_image.proofs.pieces.close.Goals as goal
 
 pub returns-clause-same : goal.returns-clause-same

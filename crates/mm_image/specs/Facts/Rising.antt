@@ -34,8 +34,8 @@ use Rattle.mm_image.specs.Laws.{ImagesRise}
 use Rattle.mm_image.specs.Facts.Pieces.{few_pieces}
 use Rattle.mm_image.specs.Facts.Keys.{no_zero}
 use Rattle.mm_image.specs.Facts.LabelOrder.{Ancestry, ByteOrder}
-use Rattle.mm_image.proofs.KeyOrder.{chunk_less, chunk_order, less_is, occurrence_order, word_less}
-use Rattle.mm_image.proofs.WordFacts.{Above, in_order_rises}
+use Rattle.mm_image.specs.Facts.KeyOrder.{chunk_less, chunk_order, less_is, occurrence_order, word_less}
+use Rattle.mm_image.specs.Facts.Words.{Above, in_order_rises}
 
 -- ---- lists in order
 
