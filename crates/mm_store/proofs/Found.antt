@@ -1,27 +1,18 @@
 -- The nodes that have the labels that a search finds.
-use Rattle.std.proofs.Common.{inl, inr, ◌≡◌, ℕ, ℤ, Bool, true, false, cond, ◌||◌, List, [], ◌∷◌, ◌++◌, refl, ap, sym, subst, Some}
+use Rattle.std.proofs.Common.{inl, inr, ◌≡◌, ℕ, ℤ, Bool, true, false, cond, ◌||◌, List, [], ◌∷◌, ◌++◌, ap, sym, subst}
 use Rattle.std.proofs.lemmas.Bool.{or_right}
 use Rattle.mm_label.specs.Fronts.{Within}
 use Rattle.mm_label.specs.Facts.Members.{contains_of, within_joined, within_of}
 use Rattle.mm_label.specs.Facts.Order.{label_same}
-use Rattle.mm_tree.specs.Edits.{found, has_label, has_node}
+use Rattle.mm_tree.specs.Edits.{has_label, has_node}
 use Rattle.mm_tree.specs.Elca.{elca}
 use Rattle.mm_tree.specs.Numbering.{Labelled}
 use Rattle.mm_tree.specs.Owners.{ExclusiveAreFull}
 use Rattle.mm_tree.specs.Search.{is_full, slca, worded, worded_as}
 use Rattle.mm_tree.specs.Smallest.{AnswersAreNodes, full_nodes}
-use Rattle.mm_tree.specs.Trees.{Tree, Trees, none, node}
+use Rattle.mm_tree.specs.Trees.{Trees, none, node}
 use Rattle.mm_store.specs.Inside.Told.{AreNodes}
-
-some_found : (x : List ℤ) (f : Trees Labelled) → has_node x f ≡ true → (t : Tree Labelled) × (found x f ≡ Some t)
-some_found x none h = absurd cc
-some_found x (node d inner rest) h = by (has_label x d) (has_node x inner) refl h (some_found x inner) (some_found x rest)
-  where
-    by : (a b : Bool) → has_node x inner ≡ b → (a || (b || has_node x rest)) ≡ true → (has_node x inner ≡ true → (t : Tree Labelled) × (found x inner ≡ Some t)) → (has_node x rest ≡ true → (t : Tree Labelled) × (found x rest ≡ Some t))
-        → (t : Tree Labelled) × (cond a (Some (d, inner)) (cond b (found x inner) (found x rest)) ≡ Some t)
-    by true b q h f g = ((d, inner), refl)
-    by false true q h f g = f q
-    by false false q h f g = g h
+use Rattle.mm_tree.specs.Facts.Found.{some_found}
 
 -- a full node is a node
 full_has : (query : List (List ℕ)) (x : List ℤ) (f : Trees Labelled) → Within x (full_nodes query (worded f)) → has_node x f ≡ true

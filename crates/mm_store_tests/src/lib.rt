@@ -1,0 +1,7 @@
+//! The test functions of mm_store: each call of a store. No code of the program.
+#![tactic(auto)]
+
+#[cfg(test)]
+mod asking;
+#[cfg(test)]
+mod stores;
