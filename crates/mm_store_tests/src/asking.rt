@@ -5,7 +5,7 @@ ghost use Rattle.mm_store.specs.Editing.{IsValidEdit};
 ghost use Rattle.mm_tree.specs.Trees.{tree_of};
 ghost use Rattle.mm_tree.specs.Validity.{is_valid_tree};
 
-use mm_command::{Reply, write_reply};
+use mm_command::{Find, Reply, write_reply};
 use mm_host::Fault;
 use mm_keeper::Keeper;
 use mm_label::Label;
@@ -25,10 +25,7 @@ pub enum Asked<'a> {
     Insert(Place, &'a str, &'a str),
     Delete(&'a str),
     Replace(&'a str, &'a str),
-    Slca(&'a str),
-    Elca(&'a str),
-    Maxmatch(&'a str),
-    MaxmatchElca(&'a str),
+    Search(Find, &'a str),
     Show(&'a str),
 }
 
@@ -95,36 +92,30 @@ fn change<K: Keeper, L: Ledger>(
     }
 }
 
-fn find_nodes<K: Keeper, L: Ledger>(
+fn find<K: Keeper, L: Ledger>(
+    find: Find,
     query: &Query,
-    exclusive: bool,
     store: &mut Store<K>,
     steps: &mut Steps<L>,
-) -> Result<Reply, StoreError> {
-    let found = if exclusive {
-        store.elca(query, steps)
-    } else {
-        store.slca(query, steps)
-    };
-    match found {
-        Ok(hits) => Ok(Reply::Hits(hits)),
-        Err(fault) => Err(StoreError::Fault(fault)),
+) -> Result<Reply, Fault> {
+    match find {
+        Find::Slca => Ok(Reply::Hits(store.slca(query, steps)?)),
+        Find::Elca => Ok(Reply::Hits(store.elca(query, steps)?)),
+        Find::Maxmatch => Ok(Reply::Fragments(store.maxmatch(query, steps)?)),
+        Find::MaxmatchElca => Ok(Reply::Fragments(store.maxmatch_elca(query, steps)?)),
     }
 }
 
-fn find_fragments<K: Keeper, L: Ledger>(
-    query: &Query,
-    exclusive: bool,
+fn search<K: Keeper, L: Ledger>(
+    alloc: Global,
+    sort: Find,
+    text: &str,
     store: &mut Store<K>,
     steps: &mut Steps<L>,
 ) -> Result<Reply, StoreError> {
-    let found = if exclusive {
-        store.maxmatch_elca(query, steps)
-    } else {
-        store.maxmatch(query, steps)
-    };
-    match found {
-        Ok(fragments) => Ok(Reply::Fragments(fragments)),
+    let query = words(alloc, text)?;
+    match find(sort, &query, store, steps) {
+        Ok(reply) => Ok(reply),
         Err(fault) => Err(StoreError::Fault(fault)),
     }
 }
@@ -165,10 +156,7 @@ fn ask<K: Keeper, L: Ledger>(
             let edit = replace(alloc, target, text)?;
             change(edit, store, steps)
         }
-        Asked::Slca(text) => find_nodes(&words(alloc, text)?, false, store, steps),
-        Asked::Elca(text) => find_nodes(&words(alloc, text)?, true, store, steps),
-        Asked::Maxmatch(text) => find_fragments(&words(alloc, text)?, false, store, steps),
-        Asked::MaxmatchElca(text) => find_fragments(&words(alloc, text)?, true, store, steps),
+        Asked::Search(find, text) => search(alloc, find, text, store, steps),
         Asked::Show(text) => show(alloc, text, store, steps),
     }
 }

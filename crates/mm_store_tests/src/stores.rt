@@ -3,6 +3,7 @@
 ghost use Rattle.std.specs.Prelude.{◌≡◌, ◌<◌, ◌≤◌, ◌^◌};
 
 use crate::asking::{Asked, replies};
+use mm_command::Find;
 use mm_examples::documents::{BIBLIOGRAPHY, NOTES};
 use mm_keeper::{Keeper, VecKeeper};
 use mm_steps::Steps;
@@ -17,25 +18,28 @@ use std::test::Fail;
 const CALLS: [(Asked<'static>, &str); 17] = [
     (Asked::Show("1"), "no 17 absent\n"),
     (Asked::Load(BIBLIOGRAPHY), "ok 1 11\n"),
-    (Asked::Slca("search liu"), "hits 1\n1.1 book\n"),
     (
-        Asked::Slca("search"),
+        Asked::Search(Find::Slca, "search liu"),
+        "hits 1\n1.1 book\n",
+    ),
+    (
+        Asked::Search(Find::Slca, "search"),
         "hits 2\n1.1.1.1 #text\n1.3.1.1 #text\n",
     ),
-    (Asked::Elca("absent liu"), "hits 0\n"),
+    (Asked::Search(Find::Elca, "absent liu"), "hits 0\n"),
     (Asked::Load(NOTES), "ok 3 7\n"),
     (
-        Asked::Elca("xml liu"),
+        Asked::Search(Find::Elca, "xml liu"),
         "hits 3\n1.1 book\n3 bib\n3.1.1 #text\n",
     ),
     (Asked::Delete("1"), "ok 1 11\n"),
     (Asked::Delete("1"), "no 17 absent\n"),
     (
-        Asked::MaxmatchElca("xml liu"),
+        Asked::Search(Find::MaxmatchElca, "xml liu"),
         "fragments 2\nfragment 3 5\n3 bib\n3.3 note\n3.3.1 #text xml\n3.5 author\n3.5.1 #text liu\nfragment 3.1.1 1\n3.1.1 #text xml liu\n",
     ),
     (
-        Asked::Maxmatch("xml liu"),
+        Asked::Search(Find::Maxmatch, "xml liu"),
         "fragments 1\nfragment 3.1.1 1\n3.1.1 #text xml liu\n",
     ),
     (
@@ -45,7 +49,10 @@ const CALLS: [(Asked<'static>, &str); 17] = [
     (Asked::Replace("3.3", "more words"), "ok 3.3 1\n"),
     (Asked::Replace("3", "more words"), "no 20 top\n"),
     (Asked::Insert(Place::Last, "3.3", "<x/>"), "no 18 leaf\n"),
-    (Asked::Slca("liu xml"), "hits 1\n3.1.1 #text\n"),
+    (
+        Asked::Search(Find::Slca, "liu xml"),
+        "hits 1\n3.1.1 #text\n",
+    ),
     (
         Asked::Show("3"),
         "tree 3 8\n<bib><book>xml liu</book><x>Liu</x>more words<author>liu</author></bib>\n",
