@@ -172,7 +172,7 @@ pub fn replies<K: Keeper, L: Ledger>(
     let reply = match ask(alloc, asked, store, steps) {
         Ok(reply) => reply,
         Err(StoreError::Refused(refusal)) => Reply::Refused(refusal),
-        Err(StoreError::Fault(_)) => return Ok(false),
+        Err(StoreError::Fault(_fault)) => return Ok(false),
     };
     let reply = write_reply(alloc, &reply)?;
     Ok(reply.as_slice() == due.as_bytes())
