@@ -47,7 +47,7 @@ pub record Opened (nodes : List Labelled) (o : Open) : Type 0 where
 
 -- ---- a node that ends
 
-told : (f : Field Kind) (o : Open) (k : Kind) → kind_of f o ≡ Ok k → kind_told f ≡ Some k
+pub told : (f : Field Kind) (o : Open) (k : Kind) → kind_of f o ≡ Ok k → kind_told f ≡ Some k
 told Short o k e = absurd cc
 told Wrong o k e = absurd cc
 told (Right (Element name attributes) rest) o k e = let p : Element name attributes ≡ k = cc in ap Some p
@@ -70,10 +70,10 @@ top_is l bytes (Words text) w t e =
     let z : not ((1 == 1) && begins_text (84 ∷ text)) ≡ true =
     subst (λ (x : ℕ). not ((x == 1) && begins_text (84 ∷ text)) ≡ true) e (subst (λ (x : List ℕ). not ((l == 1) && begins_text x) ≡ true) w t) in absurd cc
 
-abbrev first_open : Place → List ℕ → Open
+abbrev pub first_open : Place → List ℕ → Open
 first_open p value = record { label = p.label; number = p.number; last = value; content = value }
 
-abbrev next_open : Open → Place → List ℕ → Open
+abbrev pub next_open : Open → Place → List ℕ → Open
 next_open o p value = record { label = o.label; number = p.number; last = value; content = o.content ++ value }
 
 -- what the entries behind this one leave
@@ -105,8 +105,8 @@ module _ (contents : ReadAreContents) where
 
   -- ---- one piece more
 
-  opened_first : (nodes : List Labelled) (p : Place) (value : List ℕ) → IsPlaced p → AreBytes value → is_first nodes p value ≡ true → Opened nodes (first_open p value)
-  opened_first nodes p value q b e =
+  opened_first : (nodes : List Labelled) (key : List ℕ) (p : Place) (value : List ℕ) → IsPlaced key p → AreBytes value → is_first nodes p value ≡ true → Opened nodes (first_open p value)
+  opened_first nodes key p value q b e =
       let a = and_parts (p.number == 0) _ e in
       let c = and_parts (hangs nodes p.label) _ a.1 in
       let d = and_parts (nat_le (level p.label) level_limit) _ c.1 in
@@ -122,8 +122,8 @@ module _ (contents : ReadAreContents) where
   begins_more [] b h = absurd (omega arith)
   begins_more (x ∷ a) b h = refl
 
-  opened_next : (nodes : List Labelled) (o : Open) (p : Place) (value : List ℕ) → Opened nodes o → IsPlaced p → AreBytes value → is_next o p value ≡ true → Opened nodes (next_open o p value)
-  opened_next nodes o p value a q b e =
+  opened_next : (nodes : List Labelled) (o : Open) (key : List ℕ) (p : Place) (value : List ℕ) → Opened nodes o → IsPlaced key p → AreBytes value → is_next o p value ≡ true → Opened nodes (next_open o p value)
+  opened_next nodes o key p value a q b e =
       let c = and_parts (p.number == o.number + 1) _ e in
       let d = and_parts (length o.last == 1000) _ c.1 in
       let f = and_parts (is_piece value) _ d.1 in
@@ -149,19 +149,19 @@ module _ (contents : ReadAreContents) where
 
   -- ---- one entry more
 
-  start_read : (nodes : List Labelled) (p : Place) (e : Entry) (es : Entries) (ns : List Labelled) (r : Progress) → AllRead nodes → IsPlaced p → AreBytes e.1 → Later es ns → started nodes p e ≡ Ok r → read r.nodes r.node es ≡ Ok ns → AllRead ns
+  start_read : (nodes : List Labelled) (p : Place) (e : Entry) (es : Entries) (ns : List Labelled) (r : Progress) → AllRead nodes → IsPlaced e.0 p → AreBytes e.1 → Later es ns → started nodes p e ≡ Ok r → read r.nodes r.node es ≡ Ok ns → AllRead ns
   start_read nodes p e es ns r a q b ih s rd =
       let next : Progress = record { nodes = nodes; node = Some (first_open p e.1) } in
       let t = ok_parts (is_first nodes p e.1) next r (not_due e) s in
-      ih nodes (first_open p e.1) a (opened_first nodes p e.1 q b t.0) (subst (λ (z : Progress). read z.nodes z.node es ≡ Ok ns) (sym t.1) rd)
+      ih nodes (first_open p e.1) a (opened_first nodes e.0 p e.1 q b t.0) (subst (λ (z : Progress). read z.nodes z.node es ≡ Ok ns) (sym t.1) rd)
 
-  go_on : (nodes : List Labelled) (o : Open) (p : Place) (e : Entry) (es : Entries) (ns : List Labelled) (r : Progress) → AllRead nodes → Opened nodes o → IsPlaced p → AreBytes e.1 → Later es ns → continued nodes o p e ≡ Ok r → read r.nodes r.node es ≡ Ok ns → AllRead ns
+  go_on : (nodes : List Labelled) (o : Open) (p : Place) (e : Entry) (es : Entries) (ns : List Labelled) (r : Progress) → AllRead nodes → Opened nodes o → IsPlaced e.0 p → AreBytes e.1 → Later es ns → continued nodes o p e ≡ Ok r → read r.nodes r.node es ≡ Ok ns → AllRead ns
   go_on nodes o p e es ns r a k q b ih s rd =
       let next : Progress = record { nodes = nodes; node = Some (next_open o p e.1) } in
       let t = ok_parts (is_next o p e.1) next r (not_due e) s in
-      ih nodes (next_open o p e.1) a (opened_next nodes o p e.1 k q b t.0) (subst (λ (z : Progress). read z.nodes z.node es ≡ Ok ns) (sym t.1) rd)
+      ih nodes (next_open o p e.1) a (opened_next nodes o e.0 p e.1 k q b t.0) (subst (λ (z : Progress). read z.nodes z.node es ≡ Ok ns) (sym t.1) rd)
 
-  go_new : (nodes : List Labelled) (o : Open) (p : Place) (e : Entry) (es : Entries) (ns : List Labelled) (r : Progress) → AllRead nodes → Opened nodes o → IsPlaced p → AreBytes e.1 → Later es ns → (ended nodes (Some o) &> λ nodes. started nodes p e) ≡ Ok r
+  go_new : (nodes : List Labelled) (o : Open) (p : Place) (e : Entry) (es : Entries) (ns : List Labelled) (r : Progress) → AllRead nodes → Opened nodes o → IsPlaced e.0 p → AreBytes e.1 → Later es ns → (ended nodes (Some o) &> λ nodes. started nodes p e) ≡ Ok r
       → read r.nodes r.node es ≡ Ok ns → AllRead ns
   go_new nodes o p e es ns r a k q b ih s rd =
       let d = then_parts (ended nodes (Some o)) (λ nodes. started nodes p e) r s in

@@ -48,7 +48,7 @@ spot_first x o spot e a p h = first_of x.now (x.place spot) e (sym (ap (option_m
 fronts_of : {A : Type 0} (m : Entries) (e : Entry) (r : Result A Stop) → First m e → NamesBefore e r → Fronts m r
 fronts_of m e (Ok x) f b = ap (λ (l : Entries). rank l (1 ∷ [])) f.is ∙ ap (λ (t : Bool). cond t (suc (rank f.rest (1 ∷ []))) 0) b
 fronts_of m e (Err (stop.Named n)) f b = (e, f.rest, f.is, b.0, b.1)
-fronts_of m e (Err (stop.Fault x)) f b = tt
+fronts_of m e (Err (stop.Fault x)) f b = b
 
 -- the first spot of a map, of which the same map is seen afterwards
 pub fronts_at : {A S : Type 0} (x y : Seen S) (o : Option S) (spot : S) (r : Result A Stop) → y ≡ x → o ≡ Some spot → option_map x.place o ≡ first_from x.now [] → ((e : Entry) → slice_get y.now (y.place spot) ≡ Some e → NamesBefore e r) → Fronts x.now r

@@ -33,12 +33,12 @@ if_lasts more false u x y r s h = tt
 
 -- ---- the readers one by one
 
-drop_front : (n : ℕ) (bs more : List ℕ) → n ≤ length bs → drop n (bs ++ more) ≡ drop n bs ++ more
+pub drop_front : (n : ℕ) (bs more : List ℕ) → n ≤ length bs → drop n (bs ++ more) ≡ drop n bs ++ more
 drop_front zero bs more h = refl
 drop_front (suc n) [] more h = absurd (omega arith)
 drop_front (suc n) (b ∷ bs) more h = drop_front n bs more (omega arith)
 
-take_front : (n : ℕ) (bs more : List ℕ) → n ≤ length bs → take n (bs ++ more) ≡ take n bs
+pub take_front : (n : ℕ) (bs more : List ℕ) → n ≤ length bs → take n (bs ++ more) ≡ take n bs
 take_front zero bs more h = refl
 take_front (suc n) [] more h = absurd (omega arith)
 take_front (suc n) (b ∷ bs) more h = ap (λ (z : List ℕ). b ∷ z) (take_front n bs more (omega arith))

@@ -10,3 +10,12 @@ mod Hanging
 mod Sound
 mod Passing
 mod Fronting
+mod Paths
+mod Judging
+mod Stepping
+mod Spelling
+mod Chunking
+mod Deciding
+mod Walking
+mod Listing
+mod Concluding

@@ -52,7 +52,7 @@ below_front : (k : List ℕ) (xs ys : Entries) → IsBelow k (xs ++ ys) → IsBe
 below_front k [] ys b = tt
 below_front k (x ∷ xs) ys b = (b.0, below_front k xs ys b.1)
 
-rises_back : (xs ys : Entries) → Rises (xs ++ ys) → Rises ys
+pub rises_back : (xs ys : Entries) → Rises (xs ++ ys) → Rises ys
 rises_back [] ys r = r
 rises_back (x ∷ xs) ys r = rises_back xs ys r.1
 

@@ -3,9 +3,11 @@ use Rattle.std.proofs.Common.{◌≡◌, ℕ, ℤ, zero, suc, ◌<◌, ◌≤◌
 use Rattle.std.specs.Prelude.{◌==◌, nat_le, nat_lt}
 use Rattle.std.proofs.lemmas.Bool.{and_from, and_parts}
 use Rattle.std.proofs.lemmas.Bool.Decides.{nat_tests}
+use Rattle.std.proofs.lemmas.Slice.Eq.{bytes_eq-Decides}
 use Rattle.mm_label.specs.Bytes.{bytes_of}
 use Rattle.mm_label.specs.Label.{IsLabel, all_in_range, last_odd}
 use Rattle.mm_image.specs.Content.{piece_limit}
+use Rattle.mm_image.specs.Keys.{chunk_key}
 use Rattle.mm_check.specs.Laws.{AreBytes}
 use Rattle.mm_check.specs.declared.verdict.Named.{Named}
 use Rattle.mm_check.specs.Reading.{Place, ◌&>◌, is_label, is_piece, is_place, ok_if, place_in, place_of}
@@ -62,22 +64,23 @@ is_label_of l g = and_from (last_odd false l) _ g.ends_odd (and_from (all_in_ran
 
 -- ---- places
 
-pub record IsPlaced (p : Place) : Type 0 where
+pub record IsPlaced (key : List ℕ) (p : Place) : Type 0 where
   pub label : is_label p.label ≡ true
   pub number : p.number < 4294967296
+  pub is : chunk_key p.label p.number ≡ key
 
-pub placed : (key : List ℕ) (p : Place) → place_of key ≡ Some p → IsPlaced p
+pub placed : (key : List ℕ) (p : Place) → place_of key ≡ Some p → IsPlaced key p
 unfolding place_of
 placed key p e = by (is_place (place_in key) key) refl e
   where
-    parts : (q : Place) → is_place q key ≡ true → IsPlaced q
+    parts : (q : Place) → is_place q key ≡ true → IsPlaced key q
     parts q e =
         let a = and_parts (is_label q.label) _ e in
         let b = and_parts (nat_lt q.number 4294967296) _ a.1 in
-        record { label = a.0; number = less_of q.number 4294967296 b.0 }
+        record { label = a.0; number = less_of q.number 4294967296 b.0; is = (bytes_eq-Decides (chunk_key q.label q.number) key).0 b.1 }
 
-    by : (t : Bool) → is_place (place_in key) key ≡ t → cond t (Some (place_in key)) None ≡ Some p → IsPlaced p
-    by true q e = let h : place_in key ≡ p = cc in subst IsPlaced h (parts (place_in key) q)
+    by : (t : Bool) → is_place (place_in key) key ≡ t → cond t (Some (place_in key)) None ≡ Some p → IsPlaced key p
+    by true q e = let h : place_in key ≡ p = cc in subst (IsPlaced key) h (parts (place_in key) q)
     by false q e = absurd cc
 
 -- ---- bytes

@@ -7,12 +7,11 @@ use Rattle.mm_keeper.specs.Keeping.{Seen}
 use Rattle.mm_check.specs.Blame.{first_difference}
 use Rattle.mm_check.specs.Reading.{not_due}
 use Rattle.mm_list.specs.Facts.{drop_at}
-use Rattle.mm_image.specs.Inside.Cutting.{listed}
 use Rattle.mm_image.specs.Keys.{count_key, occurrence_key}
 use Rattle.byteorder.specs.Endian.{big_bytes}
 use Rattle.mm_check.specs.declared.stop.Stop.{Stop}
 use Rattle.mm_check.specs.declared.verdict.Named.{Named}
-use Rattle.mm_check.specs.Inside.Stopping.{Tells, counted_list, from}
+use Rattle.mm_check.specs.Inside.Stopping.{Tells, counted_list, from, listed}
 
 pub there : (m : Entries) (i : ℕ) → i < length m → (e : Entry) × (slice_get m i ≡ Some e)
 there [] i h = absurd (omega arith)
@@ -30,7 +29,7 @@ past_end [] (suc i) h = refl
 past_end (x ∷ m) zero h = absurd (omega arith)
 past_end (x ∷ m) (suc i) h = past_end m i (omega arith)
 
-from_within : (m : Entries) (i : ℕ) → from m (within m i) ≡ drop i m
+pub from_within : (m : Entries) (i : ℕ) → from m (within m i) ≡ drop i m
 from_within m i = by (nat_lt i (length m)) refl
   where
     beyond : (i n : ℕ) → nat_lt i n ≡ false → n ≤ i

@@ -53,9 +53,6 @@ hung_of nodes x h = elim (or_cases (is_child [] x) (list_any (λ e. is_element e
       inr (record { node = f.0; within = f.1; element = p.0; child = p.1 })
 ]
 
-more_on : (e : Labelled) (nodes : List Labelled) (x : Label) → On nodes x → On (e ∷ nodes) x
-more_on e nodes x o = record { node = o.node; within = inr o.within; element = o.element; child = o.child }
-
 child_named : (y x : Label) → IsChild y x → x ≡ [] → ⊥
 child_named y x c e = c.longer (e ∙ sym (front_none y (subst (Front y) e c.below)))
 

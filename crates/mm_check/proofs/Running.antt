@@ -112,6 +112,17 @@ record RanFirst (nodes : List Labelled) (e : Labelled) (rest : Entries) : Type 0
   whole : Whole last e
   ran : read reading.nodes reading.node (others ++ rest) ≡ read nodes (Some last) rest
 
+-- a kind that is told is the kind of the node that ends
+pub kind_back : (f : Field Kind) (o : Open) (k : Kind) → kind_told f ≡ Some k → kind_of f o ≡ Ok k
+kind_back Short o k e = absurd cc
+kind_back Wrong o k e = absurd cc
+kind_back (Right (Element name attributes) rest) o k e = let p : Element name attributes ≡ k = cc in ap Ok p
+kind_back (Right (Words text) rest) o k e = by (is_text text) e
+  where
+    by : (b : Bool) → cond b (Some (Words text)) None ≡ Some k → ok_if b (Words text) (last_piece o) ≡ Ok k
+    by true e = let p : Words text ≡ k = cc in ap Ok p
+    by false e = absurd cc
+
 -- nodes that may stand one after the other, behind these
 abbrev pub AreNodes : List Labelled → List Labelled → Type 0
 AreNodes nodes [] = Unit {0}
@@ -153,16 +164,6 @@ module _ (again : ComponentsAgain) (reads : ContentsAreRead) where
 
   abbrev done : Open → Kind → Result Labelled Named
   done o kind = Ok (record { label = o.label; kind = kind })
-
-  kind_back : (f : Field Kind) (o : Open) (k : Kind) → kind_told f ≡ Some k → kind_of f o ≡ Ok k
-  kind_back Short o k e = absurd cc
-  kind_back Wrong o k e = absurd cc
-  kind_back (Right (Element name attributes) rest) o k e = let p : Element name attributes ≡ k = cc in ap Ok p
-  kind_back (Right (Words text) rest) o k e = by (is_text text) e
-    where
-      by : (b : Bool) → cond b (Some (Words text)) None ≡ Some k → ok_if b (Words text) (last_piece o) ≡ Ok k
-      by true e = let p : Words text ≡ k = cc in ap Ok p
-      by false e = absurd cc
 
   end_is : (o : Open) (e : Labelled) → Whole o e → has_valid_parts e.kind ≡ true → ended_node o ≡ Ok e
   end_is o e w g =

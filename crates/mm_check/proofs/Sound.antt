@@ -1,5 +1,5 @@
 -- Nothing is named exactly where the map is the image of a well-formed forest.
-use Rattle.std.proofs.Common.{inl, inr, ◌≡◌, ◌⊎◌, Bool, true, false, cond, List, [], ◌∷◌, ◌++◌, filter, map, reverse, refl, ap, sym, subst, ◌∙◌, append-nil, append_assoc, None, Result, Ok, Err}
+use Rattle.std.proofs.Common.{inl, inr, ◌≡◌, ◌⊎◌, Bool, true, false, cond, List, [], ◌∷◌, ◌++◌, filter, map, reverse, IsTrue, refl, ap, sym, subst, ◌∙◌, append-nil, append_assoc, None, Result, Ok, Err}
 use Rattle.std.specs.Prelude.{flat_map}
 use Rattle.std.specs.List.{range_with_len}
 use Rattle.std.proofs.lemmas.List.{reverse-append, reverse-reverse}
@@ -9,6 +9,7 @@ use Rattle.mm_label.specs.Fronts.{Within}
 use Rattle.mm_tree.specs.Facts.Formed.{formed}
 use Rattle.mm_tree.specs.Facts.Places.{preorder_rises}
 use Rattle.mm_tree.specs.Facts.Rebuild.{rebuilt}
+use Rattle.mm_tree.specs.Forests.{is_well_formed}
 use Rattle.mm_tree.specs.Formed.{node_label}
 use Rattle.mm_tree.specs.Numbering.{Labelled}
 use Rattle.mm_tree.specs.Rebuild.{rebuild}
@@ -109,29 +110,30 @@ turned : (nodes es : List Labelled) → onto nodes es ≡ reverse es ++ nodes
 turned nodes [] = refl
 turned nodes (e ∷ es) = turned (e ∷ nodes) es ∙ turn e es nodes
 
-turned_twice : (es : List Labelled) → reverse (onto [] es) ≡ es
+pub turned_twice : (es : List Labelled) → reverse (onto [] es) ≡ es
 turned_twice es = ap reverse (turned [] es ∙ append-nil (reverse es)) ∙ reverse-reverse es
 
 -- ---- both ways
 
 module _ (order : ChunkOrder) (contents : ReadAreContents) where
-  image_of : (m : Entries) (r : Result (List Labelled) Named) → read [] None (chunks_in m) ≡ r → AreValues m → Rises m → blame_behind m r ≡ None → IsImage m
-  image_of m (Err b) q v r e = absurd cc
-  image_of m (Ok ns) q v r e =
-      let a = all_read contents (chunks_in m) ns (values_in m v) q in
+  -- the forest of the nodes that were read, whose image is the map
+  pub well_read : (m : Entries) (ns : List Labelled) → read [] None (chunks_in m) ≡ Ok ns → AreValues (chunks_in m) → Rises m → m ≡ image (rebuild node_label (reverse ns)) → IsTrue (is_well_formed (rebuild node_label (reverse ns)))
+  well_read m ns q v r same_map =
+      let a = all_read contents (chunks_in m) ns v q in
       let es = reverse ns in
       let f = rebuild node_label es in
       let same : back ns [] ≡ es = back_is ns [] ∙ append-nil es in
       let alone : AllAlone es = λ d w. elim (within_back d ns [] (subst (Within d) (sym same) w)) [ inl u ↦ read_alone ns a d u | inr u ↦ absurd u ] in
-      let same_map = no_difference m (image f) e in
       let nodes = nodes_rebuilt es in
       let rises : Rises (flat_map chunks_of es) = subst (λ (l : List Labelled). Rises (flat_map chunks_of l)) nodes (rises_front (chunks f) _ (subst Rises same_map r)) in
       let climb = nodes_rise order es (λ d w. (alone d w).label) rises in
-      record {
-        forest = f;
-        well = well_formed f (read_sits es (subst (AllHang []) same (hang_back ns [] a tt)) climb) (subst AllAlone (sym nodes) alone);
-        is = same_map;
-      }
+      well_formed f (read_sits es (subst (AllHang []) same (hang_back ns [] a tt)) climb) (subst AllAlone (sym nodes) alone)
+
+  image_of : (m : Entries) (r : Result (List Labelled) Named) → read [] None (chunks_in m) ≡ r → AreValues (chunks_in m) → Rises m → blame_behind m r ≡ None → IsImage m
+  image_of m (Err b) q v r e = absurd cc
+  image_of m (Ok ns) q v r e =
+      let same_map = no_difference m (image (rebuild node_label (reverse ns))) e in
+      record { forest = rebuild node_label (reverse ns); well = well_read m ns q v r same_map; is = same_map }
 
 none_of : ComponentsAgain → ContentsAreRead → (m : Entries) → IsImage m → blame m ≡ None
 none_of again reads m i =
@@ -145,4 +147,4 @@ none_of again reads m i =
     ∙ same_same m
 
 pub sound : ChunkOrder → ReadAreContents → ComponentsAgain → ContentsAreRead → SoundIsImage
-sound order contents again reads m s v = (image_of order contents m (read [] None (chunks_in m)) refl v s.rises, none_of again reads m)
+sound order contents again reads m s v = (image_of order contents m (read [] None (chunks_in m)) refl (values_in m v) s.rises, none_of again reads m)

@@ -1,12 +1,14 @@
 //! The entries of words: those that stand there beside those that are due.
 
 ghost use Rattle.std.specs.Prelude.{◌≡◌, ◌≤◌, ◌<◌, ◌+◌, ◌∷◌, ◌++◌, [], IfErr, IfOk, IfSome, None, Some, flat_map, length, map, option_map, slice_get};
+ghost use Rattle.std.specs.BTreeMap.{IsOrdered};
+ghost use Rattle.std.specs.Ordering.{nat_cmp};
+ghost use Rattle.std.specs.Cmp.Lexicographic.{slice_cmp};
 ghost use Rattle.byteorder.specs.Endian.{big_bytes};
 ghost use Rattle.mm_keeper.specs.Entries.{Entries, Entry};
 ghost use Rattle.mm_image.specs.Ground.{Accounts, SameGround};
-ghost use Rattle.mm_image.specs.Inside.Cutting.{listed};
 ghost use Rattle.mm_check.specs.Blame.{first_difference};
-ghost use Rattle.mm_check.specs.Inside.Stopping.{GoesOn, WantsAlone, counted_list, fault_in, from};
+ghost use Rattle.mm_check.specs.Inside.Stopping.{GoesOn, WantsAlone, counted_list, fault_in, from, listed};
 
 use crate::stop::{Stop, not_due, not_there, other_value};
 use byteorder::{BigEndian, ByteOrder};
@@ -121,6 +123,7 @@ pub fn expect_occurrences<K: Keeper, L: Ledger>(
     requires sound { K.is_sound keeper.old }
     requires stands { K.has_maps keeper.old → IfSome at (λ s. (K.seen keeper.old).place s < length (K.seen keeper.old).now) }
     ensures differs { K.has_maps keeper.old → (due : Entries) → GoesOn (first_difference (from (K.seen keeper.old).now (option_map (K.seen keeper.old).place at)) (flat_map listed lists.now.entries ++ due)) (λ next. first_difference (from (K.seen keeper.old).now (option_map (K.seen keeper.old).place next)) due) result }
+    ensures ordered { IsOrdered (slice_cmp nat_cmp) lists.now }
     ensures stands { K.has_maps keeper.old → IfOk result (λ next. IfSome next (λ s. (K.seen keeper.old).place s < length (K.seen keeper.old).now)) }
     ensures cost { K.has_maps keeper.old → steps.new ≤ steps.old + length (from (K.seen keeper.old).now (option_map (K.seen keeper.old).place at)) }
     ensures left { K.has_maps keeper.old → IfOk result (λ next. steps.new + length (from (K.seen keeper.old).now (option_map (K.seen keeper.old).place next)) ≤ steps.old + length (from (K.seen keeper.old).now (option_map (K.seen keeper.old).place at))) }

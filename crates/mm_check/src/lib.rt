@@ -2,9 +2,17 @@
 #![tactic(auto)]
 
 mod behind;
+mod checking;
+mod chunks;
 mod front;
 pub mod laws;
+mod path;
+mod pieces;
+mod place;
+mod reader;
+mod started;
 mod stop;
 mod verdict;
 
+pub use checking::check;
 pub use verdict::{Named, Verdict};

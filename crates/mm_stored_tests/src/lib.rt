@@ -4,6 +4,8 @@
 #[cfg(test)]
 mod answers;
 #[cfg(test)]
+mod damaged;
+#[cfg(test)]
 mod fragments;
 #[cfg(test)]
 mod image;

@@ -1,7 +1,7 @@
 use Rattle.std.proofs.Common.{◌≡◌, ◌++◌, ◌∷◌, ◌∙◌, ℤ, List, None, ap, sym}
 use Rattle.std.specs.Prelude.{flat_map}
 use Rattle.std.proofs.lemmas.Result.{err_from_is_err_and}
-use Rattle.mm_image.specs.Inside.Cutting.{listed}
+use Rattle.mm_check.specs.Inside.Stopping.{listed}
 use Rattle.mm_image.specs.Facts.Grounds.{accounts_along, ground_along}
 use Rattle.mm_check.proofs.Passing.{differs_onward, left_onward, part_next, stands_onward, told_onward}
 use Rattle.mm_check.proofs.behind.expect_occurrences.Goals as goal

@@ -1,9 +1,8 @@
 use Rattle.std.specs.Prelude.{◌≡◌, ◌≤◌, ◌<◌, ◌+◌, ◌++◌, flat_map, length, option_map, IfSome, None}
 use Rattle.mm_keeper.specs.Entries.{Entries}
 use Rattle.mm_image.specs.Ground.{Accounts, SameGround}
-use Rattle.mm_image.specs.Inside.Cutting.{listed}
 use Rattle.mm_check.specs.Blame.{first_difference}
-use Rattle.mm_check.specs.Inside.Stopping.{from}
+use Rattle.mm_check.specs.Inside.Stopping.{from, listed}
 use Rattle.mm_check.proofs.behind.expect_occurrences.Given as goal
 
 abbrev pub invariant-loop-word : goal.invariant-loop-word

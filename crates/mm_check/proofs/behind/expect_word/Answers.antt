@@ -1,6 +1,6 @@
 use Rattle.std.proofs.Common.{◌≡◌, ◌++◌, ◌+◌, ◌∷◌, ◌∙◌, [], drop}
 use Rattle.std.proofs.lemmas.Result.{err_from_is_err_and}
-use Rattle.mm_image.specs.Inside.Cutting.{listed}
+use Rattle.mm_check.specs.Inside.Stopping.{listed}
 use Rattle.mm_image.specs.Keys.{occurrence_key}
 use Rattle.mm_check.proofs.Passing.{listed_next, told_onward}
 use Rattle.mm_check.proofs.behind.expect_word.Goals as goal
