@@ -1,0 +1,13 @@
+//! The sample: a script of commands that is drawn from a number, and the summary of its replies.
+#![tactic(auto)]
+
+mod commands;
+mod draws;
+mod summary;
+mod writing;
+
+pub use summary::{Summary, write_summary};
+pub use writing::script;
+
+#[cfg(test)]
+mod tests;
