@@ -147,4 +147,4 @@ none_of again reads m i =
     ∙ same_same m
 
 pub sound : ChunkOrder → ReadAreContents → ComponentsAgain → ContentsAreRead → SoundIsImage
-sound order contents again reads m s v = (image_of order contents m (read [] None (chunks_in m)) refl (values_in m v) s.rises, none_of again reads m)
+sound order contents again reads m = (none_of again reads m, λ s v. image_of order contents m (read [] None (chunks_in m)) refl (values_in m v) s.rises)

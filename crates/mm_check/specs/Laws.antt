@@ -26,6 +26,6 @@ pub record IsImage (m : Entries) : Type 0 where
   pub well : IsTrue (is_well_formed forest)
   pub is : m ≡ image forest
 
--- nothing is named exactly where the map is the image of a well-formed forest
+-- Nothing is named in the image of a well-formed forest, and a map in which nothing is named is such an image.
 abbrev pub SoundIsImage : Type 0
-SoundIsImage = (m : Entries) → IsSorted m → AreValues m → (blame m ≡ None) ↔ IsImage m
+SoundIsImage = (m : Entries) → (IsImage m → blame m ≡ None) × (IsSorted m → AreValues m → blame m ≡ None → IsImage m)

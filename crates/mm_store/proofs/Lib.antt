@@ -4,3 +4,4 @@ pub mod Naming
 pub mod Told
 pub mod Edited
 pub mod Applied
+pub mod Checked

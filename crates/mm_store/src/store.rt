@@ -1,6 +1,8 @@
 //! The store: a keeper and a limit on its weight.
 
 ghost use Rattle.std.specs.Prelude.{◌≡◌, ◌+◌, ◌*◌, ◌≤◌, ◌^◌, ◌⊎◌, Some, None, [], false, true, IfOk, IfErr, IsErrOf, OnOk, OnErr, length, map};
+ghost use Rattle.mm_check.specs.Verdicts.{Judges};
+ghost use Rattle.mm_check.specs.declared.verdict.Verdict.TheVariants.{Sound};
 ghost use Rattle.mm_elca.specs.Bound as elca;
 ghost use Rattle.mm_fragment.specs.Stored.{IsDamageBelow};
 ghost use Rattle.mm_host.specs.Causes.{Rose};
@@ -8,7 +10,7 @@ ghost use Rattle.mm_host.specs.Moments.{LeavesOnly};
 ghost use Rattle.mm_host.specs.declared.damage.Fault.TheVariants as fault;
 ghost use Rattle.mm_image.specs.Ground.{Accounts, HoldsImage, SameGround};
 ghost use Rattle.mm_image.specs.Image.{image};
-ghost use Rattle.mm_image.specs.Subtrees.{NamesKey, at_or_below, run_of};
+ghost use Rattle.mm_image.specs.Subtrees.{IsUndamaged, NamesKey, at_or_below, run_of};
 ghost use Rattle.mm_keeper.specs.Entries.{weight_of};
 ghost use Rattle.mm_keeper.specs.Keeping.{Keeps, fault_of};
 ghost use Rattle.mm_lists.specs.Causes.{BlamesOnly, Caused, IsSound};
@@ -24,17 +26,19 @@ ghost use Rattle.mm_tree.specs.Fragments.{fragment_tree};
 ghost use Rattle.mm_tree.specs.Hits.{hits_of};
 ghost use Rattle.mm_tree.specs.Numbering.{Labelled, node_of};
 ghost use Rattle.mm_tree.specs.Search.{lists_of, slca, worded};
-ghost use Rattle.mm_tree.specs.Trees.{Trees};
+ghost use Rattle.mm_tree.specs.Trees.{Trees, nodes};
 
 use crate::applying::{done_of, perform};
 use crate::edit::{Edit, plan};
 use crate::fragments::fragments_of;
 use crate::hits::hits_of;
 use crate::roots::{exclusive, smallest};
+use mm_check::Verdict;
+use mm_check::laws::sound_is_image;
 use mm_edit::EditError;
 use mm_fragment::laws::answers_tell;
 use mm_host::Fault;
-use mm_image::laws::images_rise;
+use mm_image::laws::{images_rise, images_tell_forests};
 use mm_image::subtree;
 use mm_keeper::Keeper;
 use mm_label::Label;
@@ -230,6 +234,23 @@ impl<K: Keeper> Store<K> {
             Ok(None) => Err(StoreError::Refused(Refusal::Absent)),
             Err(fault) => Err(StoreError::Fault(fault)),
         }
+    }
+
+    /// Whether the map is the image of a forest, with its number of nodes, and if not, a key that doesn't fit: the first
+    /// one that chunks of nodes can't go on with, or else the least one at which the map differs from the image of their
+    /// forest. It changes nothing.
+    pub fn check<L: Ledger>(&mut self, steps: &mut Steps<L>) -> Result<Verdict, Fault>
+        ensures verdict { K.has_maps self.old.keeper → IfOk result (Judges (K.seen self.old.keeper).now) }
+        ensures sound { (f : Trees Labelled) → HoldsImage K.has_maps K.seen self.old.keeper f → IfOk result (λ v. v ≡ Sound (nodes f)) }
+        ensures undamaged { K.has_maps self.old.keeper → IfErr result IsUndamaged }
+        ensures ground { SameGround K.over K.has_maps K.tells K.seen K.written K.changes K.moment K.left_since self.old.keeper self.new.keeper }
+        ensures accounts { Accounts K.is_sound K.is_spent K.fault_count K.want_count self.old.keeper self.new.keeper (fault_of result) }
+        ensures limit { self.new.limit ≡ self.old.limit }
+        ensures cost { K.has_maps self.old.keeper → steps.new ≤ steps.old + (length (K.seen self.old.keeper).now + 2) }
+    {
+        images_tell_forests();
+        sound_is_image();
+        mm_check::check(self.alloc, &mut self.keeper, steps)
     }
 
     /// Does the checkpoint work of at most so many pages. It takes no memory.
