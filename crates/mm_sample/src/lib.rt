@@ -2,10 +2,12 @@
 #![tactic(auto)]
 
 mod commands;
+mod counts;
 mod draws;
 mod summary;
 mod writing;
 
+pub use counts::summarize;
 pub use summary::{Summary, write_summary};
 pub use writing::script;
 
