@@ -3,10 +3,12 @@
 
 mod adapters;
 
-ghost use Rattle.std.specs.Prelude.{◌≡◌, ◌≢◌, ◌<◌, ◌↔◌, ℕ, List, length, Some};
+ghost use Rattle.std.specs.Prelude.{◌≡◌, ◌≢◌, ◌<◌, ℕ, List, None, Some, map, string_bytes};
 ghost use Rattle.mm_host.specs.declared.damage.Damage.{Damage};
+ghost use Rattle.mm_options.specs.Options.{IsTaken, options_of};
 ghost use Rattle.mm_run.specs.Statuses.{fault_line, source_faults_after, HasSinkFaults};
 ghost use Rattle.mm_run.specs.Run.{Streams, Runs};
+ghost use Rattle.mm_run.specs.Sample.{Samples, Spends};
 ghost use Rattle.mm_run.specs.declared.status.Status.TheVariants as status;
 
 use crate::adapters::{ReadSource, WriteSink};
@@ -31,11 +33,15 @@ fn run_uncounted<S: Source, W: Sink, D: Disk, L: Ledger>(
     requires name { blank.name ≡ L.name }
     requires parts { blank.parts ≡ L.parts }
     requires some { 0 < blank.parts }
-    ensures runs { (bytes : List ℕ) → S.left source.old ≡ Some bytes → (taken : ℕ) × Runs (fault_line result)
+    ensures runs { (options_of (map string_bytes words.now)).sample ≡ None → (bytes : List ℕ) → S.left source.old ≡ Some bytes → (taken : ℕ) × Runs (options_of (map string_bytes words.now)) (fault_line result)
         (record { left = S.left source.old; written = W.written sink.old; sink_faults = W.fault_count sink.old; steps = 0 })
         (record { left = S.left source.new; written = W.written sink.new; sink_faults = W.fault_count sink.new; steps = taken })
         bytes result }
-    ensures usage { (result ≡ status.Usage) ↔ (length words.now ≢ 1) }
+    ensures samples { (seed : ℕ) → (options_of (map string_bytes words.now)).sample ≡ Some seed → Samples (options_of (map string_bytes words.now)) seed (W.written sink.old) (W.written sink.new) (W.fault_count sink.old) (W.fault_count sink.new) result }
+    ensures spends { (seed : ℕ) → (options_of (map string_bytes words.now)).sample ≡ Some seed → (taken : ℕ) × Spends (options_of (map string_bytes words.now)) seed 0 taken }
+    ensures untouched { (seed : ℕ) → (options_of (map string_bytes words.now)).sample ≡ Some seed → source.new ≡ source.old }
+    ensures usage { result ≡ status.Usage → IsTaken (map string_bytes words.now) → ⊥ }
+    ensures taken { result ≢ status.Usage → result ≢ status.Memory → IsTaken (map string_bytes words.now) }
     ensures source_faults { S.fault_count source.new ≡ source_faults_after result (S.fault_count source.old) }
     ensures sink_faults { HasSinkFaults result (W.fault_count sink.old) (W.fault_count sink.new) }
     ensures no_disk_fault { result ≢ status.DiskFault }
@@ -62,7 +68,10 @@ fn main(rt: HostRuntime) -> ExitCode {
             return ExitCode::from(Status::Memory.number());
         }
         // Words that can't be read aren't taken.
-        Err(_) => Vec::new(rt.alloc()),
+        Err(_) => {
+            let _ = write_all(&mut sink, b"fault 1 usage\n");
+            return ExitCode::from(Status::Usage.number());
+        }
     };
     let status = run_uncounted::<_, _, _, Brand>(
         rt.alloc(),

@@ -9,7 +9,7 @@ use Rattle.mm_tree.specs.declared.forest.place.Place.{Place}
 use Rattle.mm_tree.specs.declared.forest.place.Place.TheVariants.{Before, After, First, Last}
 use Rattle.mm_command.specs.declared.line.Find.TheVariants.{Slca, Elca, Maxmatch, MaxmatchElca}
 use Rattle.mm_command.specs.declared.line.Line.{Line}
-use Rattle.mm_command.specs.declared.line.Line.TheVariants.{Blank, Load, Insert, Delete, Replace, Search, Show, Quit}
+use Rattle.mm_command.specs.declared.line.Line.TheVariants.{Blank, Load, Insert, Delete, Replace, Search, Show, Check, Quit}
 use Rattle.mm_command.specs.declared.line.LineError.{LineError}
 use Rattle.mm_command.specs.declared.line.LineError.TheVariants.{NotACommand, Memory}
 
@@ -85,6 +85,7 @@ line_by word rest =
     else if bytes_eq word (codes "maxmatch") then Some (Search Maxmatch rest)
     else if bytes_eq word (codes "maxmatch-elca") then Some (Search MaxmatchElca rest)
     else if bytes_eq word (codes "show") then option_map Show (one_word rest)
+    else if bytes_eq word (codes "check") then alone Check rest
     else if bytes_eq word (codes "quit") then alone Quit rest
     else None
 

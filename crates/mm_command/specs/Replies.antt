@@ -2,6 +2,7 @@
 use Rattle.std.specs.Prelude.{ℕ, ℤ, ◌^◌, ◌-◌, min, List, [], ◌∷◌, ◌++◌, length, map, codes}
 use Rattle.std.specs.List.{flat_map}
 use Rattle.std.specs.Fmt.{decimal}
+use Rattle.hex.specs.Hex.{encode_lower}
 use Rattle.mm_label.specs.Text.{text_of}
 use Rattle.mm_tree.specs.declared.refusal.Refusal.{Refusal}
 use Rattle.mm_tree.specs.declared.hit.Hit.{Hit}
@@ -10,6 +11,8 @@ use Rattle.mm_tree.specs.Trees.{Tree, one, nodes, preorder}
 use Rattle.mm_tree.specs.Numbering.{Labelled, node_of}
 use Rattle.mm_tree.specs.Fragments.{Named, fragment_tree}
 use Rattle.mm_xml.specs.Writing.{written, without_labels}
+use Rattle.mm_check.specs.declared.verdict.Verdict.{Verdict}
+use Rattle.mm_check.specs.declared.verdict.Verdict.TheVariants as verdict
 use Rattle.mm_command.specs.declared.reply.Reply.{Reply}
 use Rattle.mm_command.specs.declared.reply.Reply.TheVariants as reply
 
@@ -57,9 +60,22 @@ fragment_text t = fragment_head t.0.label (shown_count (nodes (one t))) ++ flat_
 abbrev pub fragments_text : List (Tree Named) → List ℕ
 fragments_text ts = codes "fragments " ++ (decimal (length ts) ++ 10 ∷ flat_map fragment_text ts)
 
+-- `sound` and a number of nodes
+abbrev pub sound_text : ℕ → List ℕ
+sound_text count = codes "sound " ++ (decimal count ++ 10 ∷ [])
+
+-- `unsound` and a key in lower-case hexadecimal
+abbrev pub unsound_text : List ℕ → List ℕ
+unsound_text key = codes "unsound " ++ (encode_lower key ++ 10 ∷ [])
+
+abbrev pub verdict_text : Verdict → List ℕ
+verdict_text (verdict.Sound count) = sound_text count
+verdict_text (verdict.Unsound key stored due) = unsound_text key
+
 abbrev pub reply_text : Reply → List ℕ
 reply_text (reply.Done done) = done_text done.label done.nodes
 reply_text (reply.Hits hits) = hits_text hits
 reply_text (reply.Fragments fs) = fragments_text (map fragment_tree fs)
 reply_text (reply.Tree n) = tree_text (node_of n)
+reply_text (reply.Checked v) = verdict_text v
 reply_text (reply.Refused r) = refused_text r

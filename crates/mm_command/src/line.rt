@@ -30,6 +30,8 @@ pub enum Line {
     Replace { label: Text },
     Search { find: Find, text: Text },
     Show { label: Text },
+    /// Whether the store's map is the image of a forest.
+    Check,
     Quit,
 }
 

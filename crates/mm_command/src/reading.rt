@@ -135,6 +135,7 @@ fn line_by(alloc: Global, word: &str, rest: &str) -> Result<Line, LineError>
         "show" => Ok(Line::Show {
             label: one_word(alloc, rest)?,
         }),
+        "check" => alone(Line::Check, rest),
         "quit" => alone(Line::Quit, rest),
         _ => Err(LineError::NotACommand),
     }

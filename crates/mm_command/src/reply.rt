@@ -2,9 +2,11 @@
 ghost use Rattle.std.specs.Prelude.{◌≡◌, IfOk, OnOk, ◌++◌};
 ghost use Rattle.std.specs.List.{flat_map};
 ghost use Rattle.mm_tree.specs.Numbering.{node_of};
-ghost use Rattle.mm_command.specs.Replies.{refused_text, done_text, tree_text, hit_line, hits_text, reply_text};
+ghost use Rattle.mm_command.specs.Replies.{refused_text, done_text, tree_text, hit_line, hits_text, sound_text, unsound_text, verdict_text, reply_text};
 
 use crate::fragments::fragments_reply;
+use mm_check::Verdict;
+use mm_host::Bytes;
 use mm_tree::{Done, Fragments, Hit, Hits, Node, Refusal};
 use mm_xml::write;
 use std::alloc::{AllocError, Global};
@@ -20,6 +22,8 @@ pub enum Reply {
     Fragments(Fragments),
     /// The node that was asked for.
     Tree(Node),
+    /// The map was looked through.
+    Checked(Verdict),
     Refused(Refusal),
 }
 
@@ -86,6 +90,32 @@ fn hits_reply(alloc: Global, hits: &[Hit]) -> Result<Vec<u8>, AllocError>
     Ok(reply)
 }
 
+/// The reply of a check that found an image: how many nodes its forest has.
+fn sound_reply(alloc: Global, nodes: u64) -> Result<Vec<u8>, AllocError>
+    ensures { IfOk result (λ reply. reply.items ≡ sound_text nodes) }
+{
+    let text = format!(in alloc; "sound {nodes}\n")?;
+    Ok(text.into_bytes())
+}
+
+/// The reply of a check that found none: a key that doesn't fit, in lower-case hexadecimal.
+fn unsound_reply(alloc: Global, key: &Bytes) -> Result<Vec<u8>, AllocError>
+    ensures { IfOk result (λ reply. reply.items ≡ unsound_text key.now) }
+{
+    let key = hex::encode(alloc, key.as_slice())?;
+    let text = format!(in alloc; "unsound {key}\n")?;
+    Ok(text.into_bytes())
+}
+
+fn checked_reply(alloc: Global, verdict: &Verdict) -> Result<Vec<u8>, AllocError>
+    ensures { IfOk result (λ reply. reply.items ≡ verdict_text verdict.now) }
+{
+    match verdict {
+        Verdict::Sound { nodes } => sound_reply(alloc, *nodes),
+        Verdict::Unsound { key, .. } => unsound_reply(alloc, key),
+    }
+}
+
 /// The reply, whose last line ends with a line feed too.
 pub fn write_reply(alloc: Global, reply: &Reply) -> Result<Vec<u8>, AllocError>
     ensures { IfOk result (λ bytes. bytes.items ≡ reply_text reply.now) }
@@ -95,6 +125,7 @@ pub fn write_reply(alloc: Global, reply: &Reply) -> Result<Vec<u8>, AllocError>
         Reply::Hits(hits) => hits_reply(alloc, hits.as_slice()),
         Reply::Fragments(fragments) => fragments_reply(alloc, fragments.as_slice()),
         Reply::Tree(node) => tree_reply(alloc, node),
+        Reply::Checked(verdict) => checked_reply(alloc, verdict),
         Reply::Refused(refusal) => refused_reply(alloc, *refusal),
     }
 }

@@ -1,11 +1,13 @@
 //! A case: what one run is given, and what it came to.
 
-ghost use Rattle.std.specs.Prelude.{◌≡◌, ◌<◌};
+ghost use Rattle.std.specs.Prelude.{◌≡◌, ◌<◌, false};
 
 use crate::pieces::{PieceSink, PieceSource};
 use mm_host::{MemSink, MemSource, NoDisk};
-use mm_run::{Status, run};
+use mm_keeper::VecKeeper;
+use mm_run::{Input, Options, Status, Went, run, turn};
 use mm_steps::Steps;
+use mm_store::Store;
 use std::alloc::{AllocError, Global};
 use std::io;
 use std::marker::Brand;
@@ -23,6 +25,9 @@ pub struct Case {
     pub failing_writes: Vec<u64>,
     /// How many bytes a read or a write moves at most; at least one.
     pub most: usize,
+    /// How many bytes the keys and values of the store may have together, 1,024 to 2^40. Where it is told, the
+    /// commands are answered turn by turn over such a store.
+    pub limit: Option<u64>,
 }
 
 /// What one run came to.
@@ -58,6 +63,64 @@ fn run_uncounted(
     run_counted::<Brand>(alloc, words, source, sink, Blank::new(1))
 }
 
+/// Answers commands one by one, until no command is left or a turn fails.
+fn turns<L: Ledger>(
+    alloc: Global,
+    input: &mut Input<PieceSource<MemSource>>,
+    sink: &mut PieceSink<MemSink>,
+    store: &mut Store<VecKeeper>,
+    options: &Options,
+    steps: &mut Steps<L>,
+) -> Result<(), Status>
+    requires going { input.old.failed ≡ false }
+    requires unspent { store.old.keeper.spent ≡ false }
+    requires limit { options.now.limit ≡ store.old.limit }
+{
+    'turns: loop {
+        match turn(alloc, input, sink, store, options, steps)? {
+            Went::Answered => {}
+            Went::Ended => return Ok(()),
+        }
+    }
+}
+
+fn within_counted<L: Ledger>(
+    alloc: Global,
+    limit: u64,
+    source: PieceSource<MemSource>,
+    sink: &mut PieceSink<MemSink>,
+    blank: Blank,
+) -> Status
+    requires name { blank.name ≡ L.name }
+    requires parts { blank.parts ≡ L.parts }
+    requires some { 0 < blank.parts }
+{
+    let mut steps = Steps::<L>::new(blank);
+    let mut options = Options::new();
+    options.limit = limit.clamp(1024, 1 << 40);
+    let Ok(mut input) = Input::new(alloc, source) else {
+        return Status::Memory;
+    };
+    let keeper = VecKeeper::new(Vec::new(alloc));
+    let mut store = Store::over(alloc, keeper, options.limit);
+    let ended = turns(alloc, &mut input, sink, &mut store, &options, &mut steps);
+    let _ = store.into_keeper();
+    match ended {
+        Ok(()) => Status::Ok,
+        Err(status) => status,
+    }
+}
+
+/// The turns over a store in memory with this limit, whose steps nobody asks for. No line of a fault is written.
+fn run_within(
+    alloc: Global,
+    limit: u64,
+    source: PieceSource<MemSource>,
+    sink: &mut PieceSink<MemSink>,
+) -> Status {
+    within_counted::<Brand>(alloc, limit, source, sink, Blank::new(1))
+}
+
 impl Case {
     /// A run without words or input, over devices that don't fail.
     pub fn new(alloc: Global) -> Case {
@@ -67,6 +130,7 @@ impl Case {
             failing_reads: Vec::new(alloc),
             failing_writes: Vec::new(alloc),
             most: usize::MAX,
+            limit: None,
         }
     }
 
@@ -78,6 +142,7 @@ impl Case {
             failing_reads,
             failing_writes,
             most,
+            limit,
         } = self;
         if words.is_empty() {
             words.push(String::from_str(alloc, "kwstore")?)?;
@@ -90,7 +155,10 @@ impl Case {
             sink: MemSink::new(alloc, ROOM, failing_writes)?,
             most,
         };
-        let status = run_uncounted(alloc, &words, &mut source, &mut sink);
+        let status = match limit {
+            None => run_uncounted(alloc, &words, &mut source, &mut sink),
+            Some(limit) => run_within(alloc, limit, source, &mut sink),
+        };
         Ok(Outcome {
             sink: sink.sink,
             status,

@@ -17,6 +17,8 @@ pub enum Row<'a> {
     FailingWrites(&'a str),
     /// How many bytes a read or a write moves at most.
     Pieces(&'a str),
+    /// How many bytes the store may hold.
+    Limit(&'a str),
 }
 
 /// What stands behind the bar of a line of input.
@@ -48,6 +50,7 @@ pub fn row_of(line: &str) -> Option<Row<'_>> {
         "failing reads" => Some(Row::FailingReads(value)),
         "failing writes" => Some(Row::FailingWrites(value)),
         "pieces" => Some(Row::Pieces(value)),
+        "limit" => Some(Row::Limit(value)),
         _ => None,
     }
 }

@@ -72,6 +72,10 @@ fn take_row(alloc: Global, case: &mut Case, row: Row<'_>) -> Result<bool, AllocE
             Ok(most) => case.most = most,
             Err(_) => return Ok(false),
         },
+        Row::Limit(number) => match number.parse::<u64>() {
+            Ok(limit) => case.limit = Some(limit),
+            Err(_) => return Ok(false),
+        },
     }
     Ok(true)
 }

@@ -3,7 +3,7 @@ use Rattle.std.proofs.Common.{◌≡◌, ℕ, ◌<◌, Bool, true, false, List, 
 use Rattle.std.specs.declared.option.Option.{Option}
 use Rattle.std.specs.Io.KnownBytes.{IsAtEnd}
 use Rattle.mm_run.specs.declared.command.Command.{Command}
-use Rattle.mm_command.specs.declared.line.Line.TheVariants.{Blank, Load, Insert, Delete, Replace, Search, Show, Quit}
+use Rattle.mm_command.specs.declared.line.Line.TheVariants.{Blank, Load, Insert, Delete, Replace, Search, Show, Check, Quit}
 use Rattle.mm_run.specs.declared.command.Payload.{Payload}
 use Rattle.mm_run.specs.declared.command.Payload.TheVariants.{Nothing, Cut}
 use Rattle.mm_run.specs.declared.reading.Next.{Next}
@@ -161,6 +161,7 @@ last-form (Some (Delete label)) = refl
 last-form (Some (Replace label)) = refl
 last-form (Some (Search find text)) = refl
 last-form (Some (Show label)) = refl
+last-form (Some Check) = refl
 last-form (Some Quit) = refl
 
 -- The end of the input ends a line.

@@ -5,10 +5,15 @@ pub mod Cutting
 pub mod Rows
 pub mod Gathering
 pub mod Heads
+pub mod Carrying
+pub mod Edited
+pub mod Answered
 pub mod Planning
 pub mod Tested
 pub mod Turns
+pub mod Finishing
+pub mod Inputs
 pub mod Telling
+pub mod Sampling
 pub mod OneReply
 pub mod SomeReply
-pub mod Shown

@@ -1,5 +1,5 @@
 -- Commands have at most one list of replies.
-use Rattle.std.proofs.Common.{◌≡◌, ℕ, ℤ, List, [], ◌∷◌, ◌++◌, Option, None, Some, ap, sym, subst, ◌∙◌, ⊎_elim}
+use Rattle.std.proofs.Common.{◌≡◌, ℕ, ℤ, Bool, true, false, List, [], ◌∷◌, ◌++◌, Option, None, Some, Result, Ok, Err, ap, sym, subst, ◌∙◌, ⊎_elim}
 use Rattle.mm_tree.specs.declared.plain.Kind.{Kind}
 use Rattle.mm_tree.specs.declared.refusal.Refusal.{Refusal}
 use Rattle.mm_tree.specs.Trees.{Trees, Tree, one, nodes}
@@ -10,8 +10,8 @@ use Rattle.mm_command.specs.declared.line.Line.{Line}
 use Rattle.mm_command.specs.declared.line.Line.TheVariants as line
 use Rattle.mm_run.specs.Forms.{Form}
 use Rattle.mm_run.specs.declared.command.Payload.{Payload}
-use Rattle.mm_run.specs.declared.command.Payload.TheVariants as payload
-use Rattle.mm_run.specs.Answers.{Refuses, Shows, AnswersEdit, RefusesFirst, Planned, planned_load, planned_insert, planned_replace, tree_refusal, AnswersBytes, AnswersLabel, AnswersLoad, AnswersInsert, AnswersReplace, AnswersDelete, AnswersFound, AnswersShow, roots, found_text, AnswersQuery, AnswersLine, AnswersForm, Answers, Replies}
+use Rattle.mm_options.specs.declared.options.Options.{Options}
+use Rattle.mm_run.specs.Answers.{Refuses, Shows, AnswersEdit, RefusesFirst, Planned, planned_load, planned_insert, planned_replace, tree_refusal, taken, AnswersTaken, AnswersUnlocked, AnswersBytes, AnswersLabel, AnswersLoad, AnswersInsert, AnswersReplace, AnswersDelete, AnswersFound, AnswersShow, roots, found_text, AnswersQuery, AnswersLine, AnswersForm, Answers, Replies}
 use Rattle.mm_label.specs.Label.{IsLabel}
 use Rattle.mm_label.specs.Text.{text_of}
 use Rattle.mm_words.specs.Words.{query_words}
@@ -77,55 +77,64 @@ module _ (one_tree : (bytes : List ℕ) (t u : Tree Kind) → Spells bytes t →
       (λ a. ⊎_elim (λ b. absurd (a.0 b.0 b.1 b.2)) (λ b. refuses-once a.1 b.1) second)
       first
 
-  load-once : (p : Payload) (forest : Trees Labelled) (r s : List ℕ) (f g : Trees Labelled) → AnswersLoad p forest r f → AnswersLoad p forest s g → Same r s f g
-  load-once (payload.Whole bytes) forest r s f g a b = bytes-once (planned_load forest) bytes forest r s f g a b
-  load-once payload.Long forest r s f g a b = refuses-once a b
-  load-once payload.Cut forest r s f g a b = refuses-once a b
-  load-once payload.Nothing forest r s f g a b = refuses-once a b
+  taken-once : (t : Result (List ℕ) Refusal) (Answered : List ℕ → List ℕ → Trees Labelled → Type 0) (forest : Trees Labelled) (r s : List ℕ) (f g : Trees Labelled)
+      → ((bytes : List ℕ) → Answered bytes r f → Answered bytes s g → Same r s f g)
+      → AnswersTaken t (λ bytes. Answered bytes r f) forest r f → AnswersTaken t (λ bytes. Answered bytes s g) forest s g → Same r s f g
+  taken-once (Ok bytes) Answered forest r s f g once a b = once bytes a b
+  taken-once (Err why) Answered forest r s f g once a b = refuses-once a b
 
-  insert-once : (place : Place) (text : List ℕ) (p : Payload) (forest : Trees Labelled) (r s : List ℕ) (f g : Trees Labelled) → AnswersInsert place text p forest r f → AnswersInsert place text p forest s g → Same r s f g
-  insert-once place text (payload.Whole bytes) forest r s f g a b =
-      label-once text (λ x t h. AnswersBytes (planned_insert place x forest) bytes forest t h) forest r s f g (λ x. bytes-once (planned_insert place x forest) bytes forest r s f g) a b
-  insert-once place text payload.Long forest r s f g a b = refuses-once a b
-  insert-once place text payload.Cut forest r s f g a b = refuses-once a b
-  insert-once place text payload.Nothing forest r s f g a b = refuses-once a b
+  load-once : (options : Options) (p : Payload) (forest : Trees Labelled) (r s : List ℕ) (f g : Trees Labelled) → AnswersLoad options p forest r f → AnswersLoad options p forest s g → Same r s f g
+  load-once options p forest r s f g a b =
+      taken-once (taken options p) (λ bytes. AnswersBytes (planned_load options forest) bytes forest) forest r s f g (λ bytes. bytes-once (planned_load options forest) bytes forest r s f g) a b
 
-  replace-once : (text : List ℕ) (p : Payload) (forest : Trees Labelled) (r s : List ℕ) (f g : Trees Labelled) → AnswersReplace text p forest r f → AnswersReplace text p forest s g → Same r s f g
-  replace-once text (payload.Whole bytes) forest r s f g a b =
-      label-once text (λ x t h. AnswersBytes (planned_replace x forest) bytes forest t h) forest r s f g (λ x. bytes-once (planned_replace x forest) bytes forest r s f g) a b
-  replace-once text payload.Long forest r s f g a b = refuses-once a b
-  replace-once text payload.Cut forest r s f g a b = refuses-once a b
-  replace-once text payload.Nothing forest r s f g a b = refuses-once a b
+  insert-once : (options : Options) (place : Place) (text : List ℕ) (p : Payload) (forest : Trees Labelled) (r s : List ℕ) (f g : Trees Labelled)
+      → AnswersInsert options place text p forest r f → AnswersInsert options place text p forest s g → Same r s f g
+  insert-once options place text p forest r s f g a b =
+      taken-once (taken options p) (λ bytes t h. AnswersLabel text (λ x. AnswersBytes (planned_insert options place x forest) bytes forest t h) (Refuses forest refusal.Label t h)) forest r s f g
+      (λ bytes. label-once text (λ x t h. AnswersBytes (planned_insert options place x forest) bytes forest t h) forest r s f g (λ x. bytes-once (planned_insert options place x forest) bytes forest r s f g)) a b
 
-  delete-once : (text : List ℕ) (forest : Trees Labelled) (r s : List ℕ) (f g : Trees Labelled) → AnswersDelete text forest r f → AnswersDelete text forest s g → Same r s f g
-  delete-once text forest r s f g a b =
-      label-once text (λ x t h. AnswersEdit (delete_refusal x forest) x (shown_count (subtree_size x forest)) (delete x forest) forest t h) forest r s f g
-      (λ x. edit-once (delete_refusal x forest) x (shown_count (subtree_size x forest)) (delete x forest) forest r s f g) a b
+  replace-once : (options : Options) (text : List ℕ) (p : Payload) (forest : Trees Labelled) (r s : List ℕ) (f g : Trees Labelled)
+      → AnswersReplace options text p forest r f → AnswersReplace options text p forest s g → Same r s f g
+  replace-once options text p forest r s f g a b =
+      taken-once (taken options p) (λ bytes t h. AnswersLabel text (λ x. AnswersBytes (planned_replace options x forest) bytes forest t h) (Refuses forest refusal.Label t h)) forest r s f g
+      (λ bytes. label-once text (λ x t h. AnswersBytes (planned_replace options x forest) bytes forest t h) forest r s f g (λ x. bytes-once (planned_replace options x forest) bytes forest r s f g)) a b
+
+  unlocked-once : (locked : Bool) (Answered : List ℕ → Trees Labelled → Type 0) (forest : Trees Labelled) (r s : List ℕ) (f g : Trees Labelled) → (Answered r f → Answered s g → Same r s f g)
+      → AnswersUnlocked locked (Answered r f) forest r f → AnswersUnlocked locked (Answered s g) forest s g → Same r s f g
+  unlocked-once true Answered forest r s f g once a b = refuses-once a b
+  unlocked-once false Answered forest r s f g once a b = once a b
+
+  delete-once : (options : Options) (text : List ℕ) (forest : Trees Labelled) (r s : List ℕ) (f g : Trees Labelled) → AnswersDelete options text forest r f → AnswersDelete options text forest s g → Same r s f g
+  delete-once options text forest r s f g a b =
+      unlocked-once options.read_only (λ t h. AnswersLabel text (λ x. AnswersEdit (delete_refusal x forest) x (shown_count (subtree_size x forest)) (delete x forest) forest t h) (Refuses forest refusal.Label t h)) forest r s f g
+      (label-once text (λ x t h. AnswersEdit (delete_refusal x forest) x (shown_count (subtree_size x forest)) (delete x forest) forest t h) forest r s f g
+      (λ x. edit-once (delete_refusal x forest) x (shown_count (subtree_size x forest)) (delete x forest) forest r s f g)) a b
 
   show-once : (text : List ℕ) (forest : Trees Labelled) (r s : List ℕ) (f g : Trees Labelled) → AnswersShow text forest r f → AnswersShow text forest s g → Same r s f g
   show-once text forest r s f g a b = label-once text (λ x t h. AnswersFound (found x forest) forest t h) forest r s f g (λ x. found-once (found x forest) forest r s f g) a b
 
-  line-once : (l : Line) (p : Payload) (forest : Trees Labelled) (r s : List ℕ) (f g : Trees Labelled) → AnswersLine l p forest r f → AnswersLine l p forest s g → Same r s f g
-  line-once line.Blank p forest r s f g a b = shows-once a b
-  line-once line.Load p forest r s f g a b = load-once p forest r s f g a b
-  line-once (line.Insert place label) p forest r s f g a b = insert-once place label p forest r s f g a b
-  line-once (line.Delete label) p forest r s f g a b = delete-once label forest r s f g a b
-  line-once (line.Replace label) p forest r s f g a b = replace-once label p forest r s f g a b
-  line-once (line.Search find text) p forest r s f g a b = query-once (query_refusal (query_words text)) (found_text find (query_words text) forest (roots find (query_words text) forest)) forest r s f g a b
-  line-once (line.Show label) p forest r s f g a b = show-once label forest r s f g a b
-  line-once line.Quit p forest r s f g a b = shows-once a b
+  line-once : (options : Options) (l : Line) (p : Payload) (forest : Trees Labelled) (r s : List ℕ) (f g : Trees Labelled) → AnswersLine options l p forest r f → AnswersLine options l p forest s g → Same r s f g
+  line-once options line.Blank p forest r s f g a b = shows-once a b
+  line-once options line.Load p forest r s f g a b = load-once options p forest r s f g a b
+  line-once options (line.Insert place label) p forest r s f g a b = insert-once options place label p forest r s f g a b
+  line-once options (line.Delete label) p forest r s f g a b = delete-once options label forest r s f g a b
+  line-once options (line.Replace label) p forest r s f g a b = replace-once options label p forest r s f g a b
+  line-once options (line.Search find text) p forest r s f g a b = query-once (query_refusal (query_words text)) (found_text find (query_words text) forest (roots find (query_words text) forest)) forest r s f g a b
+  line-once options (line.Show label) p forest r s f g a b = show-once label forest r s f g a b
+  line-once options line.Check p forest r s f g a b = shows-once a b
+  line-once options line.Quit p forest r s f g a b = shows-once a b
 
-  form-once : (w : Form) (p : Payload) (forest : Trees Labelled) (r s : List ℕ) (f g : Trees Labelled) → AnswersForm w p forest r f → AnswersForm w p forest s g → Same r s f g
-  form-once None p forest r s f g a b = refuses-once a b
-  form-once (Some l) p forest r s f g a b = line-once l p forest r s f g a b
+  form-once : (options : Options) (w : Form) (p : Payload) (forest : Trees Labelled) (r s : List ℕ) (f g : Trees Labelled) → AnswersForm options w p forest r f → AnswersForm options w p forest s g → Same r s f g
+  form-once options None p forest r s f g a b = refuses-once a b
+  form-once options (Some l) p forest r s f g a b = line-once options l p forest r s f g a b
 
-  answer-once : (forest : Trees Labelled) (command : Command) (r s : List ℕ) (f g : Trees Labelled) → Answers forest command r f → Answers forest command s g → Same r s f g
+  answer-once : (options : Options) (forest : Trees Labelled) (command : Command) (r s : List ℕ) (f g : Trees Labelled) → Answers options forest command r f → Answers options forest command s g → Same r s f g
   unfolding Answers
-  answer-once forest command r s f g a b = form-once command.form command.payload forest r s f g a b
+  answer-once options forest command r s f g a b = form-once options command.form command.payload forest r s f g a b
 
-  pub replies-once : (forest : Trees Labelled) (commands : List Command) (r s : List ℕ) (f g : Trees Labelled) → Replies forest commands r f → Replies forest commands s g → Same r s f g
-  replies-once forest [] r s f g a b = (a.0 ∙ sym b.0, a.1 ∙ sym b.1)
-  replies-once forest (command ∷ commands) r s f g a b =
-      let one = answer-once forest command a.0 b.0 a.2 b.2 a.3 b.3 in
-      let more = replies-once a.2 commands a.1 b.1 f g a.4 (subst (λ (next : Trees Labelled). Replies next commands b.1 g) (sym one.1) b.4) in
+  pub replies-once : (options : Options) (forest : Trees Labelled) (commands : List Command) (r s : List ℕ) (f g : Trees Labelled) → Replies options forest commands r f → Replies options forest commands s g → Same r s f g
+  replies-once options forest [] r s f g a b = (a.0 ∙ sym b.0, a.1 ∙ sym b.1)
+  replies-once options forest (command ∷ commands) r s f g a b =
+      let one = answer-once options forest command a.0 b.0 a.2 b.2 a.3 b.3 in
+      let more = replies-once options a.2 commands a.1 b.1 f g a.4 (subst (λ (next : Trees Labelled). Replies options next commands b.1 g) (sym one.1) b.4) in
       (a.5 ∙ ap (λ l. l ++ a.1) one.0 ∙ ap (λ l. b.0 ++ l) more.0 ∙ sym b.5, more.1)

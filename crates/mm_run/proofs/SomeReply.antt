@@ -1,5 +1,5 @@
 -- Each command has a reply.
-use Rattle.std.proofs.Common.{◌≡◌, ℕ, ℤ, Bool, true, false, cond, List, [], ◌∷◌, length, Option, None, Some, option_map, refl, inl, inr, ⊎_elim}
+use Rattle.std.proofs.Common.{◌≡◌, ℕ, ℤ, Bool, true, false, cond, List, [], ◌∷◌, length, Option, None, Some, Result, Ok, Err, option_map, refl, inl, inr, ⊎_elim, subst}
 use Rattle.std.specs.Prelude.{nat_lt}
 use Rattle.mm_tree.specs.declared.refusal.Refusal.{Refusal}
 use Rattle.mm_tree.specs.Trees.{Trees, Tree, one, nodes}
@@ -9,8 +9,9 @@ use Rattle.mm_command.specs.declared.line.Line.{Line}
 use Rattle.mm_command.specs.declared.line.Line.TheVariants as line
 use Rattle.mm_run.specs.Forms.{Form}
 use Rattle.mm_run.specs.declared.command.Payload.{Payload}
+use Rattle.mm_options.specs.declared.options.Options.{Options}
 use Rattle.mm_run.specs.declared.command.Payload.TheVariants as payload
-use Rattle.mm_run.specs.Answers.{Refuses, Shows, AnswersEdit, RefusesFirst, Planned, planned_load, planned_insert, planned_replace, tree_refusal, AnswersBytes, AnswersLabel, AnswersLoad, AnswersInsert, AnswersReplace, AnswersFound, roots, found_text, AnswersQuery, AnswersLine, AnswersForm, Answers}
+use Rattle.mm_run.specs.Answers.{Refuses, Shows, AnswersEdit, RefusesFirst, Planned, planned_load, planned_insert, planned_replace, tree_refusal, AnswersBytes, AnswersLabel, taken, AnswersTaken, AnswersUnlocked, AnswersLoad, AnswersInsert, AnswersReplace, AnswersDelete, AnswersFound, roots, found_text, AnswersQuery, AnswersLine, AnswersForm, Answers}
 use Rattle.mm_run.specs.Settled.{IsTreeOrNone, IsLabelOrNone, HasReply, bytes_in, label_in, label_asked}
 use Rattle.mm_words.specs.Words.{query_words}
 use Rattle.mm_words.specs.Refusals.{query_refusal, first_long}
@@ -19,7 +20,7 @@ use Rattle.mm_words.specs.declared.error.QueryError.TheVariants as query
 use Rattle.mm_tree.specs.declared.forest.place.Place.{Place}
 use Rattle.mm_tree.specs.declared.refusal.Refusal.TheVariants as refusal
 use Rattle.mm_tree.specs.Edits.{found, subtree_size, delete, delete_refusal}
-use Rattle.mm_command.specs.Replies.{refused_text, done_text, tree_text, shown_count}
+use Rattle.mm_command.specs.Replies.{refused_text, done_text, sound_text, tree_text, shown_count}
 
 -- some reply and some forest after are answers
 abbrev Has : (List ℕ → Trees Labelled → Type 0) → Type 0
@@ -71,46 +72,66 @@ with-label text Answered forest each = ⊎_elim
     (λ h. let e = each h.0 in (e.0, e.1, inl (h.0, h.1, h.2, e.2)))
     (λ h. let r = refused forest refusal.Label in (r.0, r.1, inr (h, r.2)))
 
-loaded : (p : Payload) (forest : Trees Labelled) → IsTreeOrNone (bytes_in p) → Has (AnswersLoad p forest)
-loaded payload.Nothing forest tree = refused forest refusal.Command
-loaded payload.Cut forest tree = refused forest refusal.Command
-loaded payload.Long forest tree = refused forest refusal.Size
-loaded (payload.Whole bytes) forest tree = with-bytes (planned_load forest) bytes forest tree
+with-taken : (t : Result (List ℕ) Refusal) (Answered : List ℕ → List ℕ → Trees Labelled → Type 0) (forest : Trees Labelled) → ((bytes : List ℕ) → t ≡ Ok bytes → Has (Answered bytes))
+    → Has (λ reply after. AnswersTaken t (λ bytes. Answered bytes reply after) forest reply after)
+with-taken (Ok bytes) Answered forest each = each bytes refl
+with-taken (Err r) Answered forest each = refused forest r
 
-inserted : (place : Place) (text : List ℕ) (p : Payload) (forest : Trees Labelled) → IsTreeOrNone (bytes_in p) → IsLabelOrNone text → Has (AnswersInsert place text p forest)
-inserted place text payload.Nothing forest tree label = refused forest refusal.Command
-inserted place text payload.Cut forest tree label = refused forest refusal.Command
-inserted place text payload.Long forest tree label = refused forest refusal.Size
-inserted place text (payload.Whole bytes) forest tree label =
-    with-label text (λ x. AnswersBytes (planned_insert place x forest) bytes forest) forest (λ x. with-bytes (planned_insert place x forest) bytes forest tree) label
+whole-bytes : (locked : Bool) (all bytes : List ℕ) → ◌≡◌ {A = Result (List ℕ) Refusal} (cond locked (Err refusal.Readonly) (Ok all)) (Ok bytes) → IsTreeOrNone all → IsTreeOrNone bytes
+whole-bytes true all bytes e tree = absurd cc
+whole-bytes false all bytes e tree = let same : all ≡ bytes = cc in subst IsTreeOrNone same tree
 
-replaced : (text : List ℕ) (p : Payload) (forest : Trees Labelled) → IsTreeOrNone (bytes_in p) → IsLabelOrNone text → Has (AnswersReplace text p forest)
-replaced text payload.Nothing forest tree label = refused forest refusal.Command
-replaced text payload.Cut forest tree label = refused forest refusal.Command
-replaced text payload.Long forest tree label = refused forest refusal.Size
-replaced text (payload.Whole bytes) forest tree label =
-    with-label text (λ x. AnswersBytes (planned_replace x forest) bytes forest) forest (λ x. with-bytes (planned_replace x forest) bytes forest tree) label
+-- what is taken of a payload are its bytes
+taken-bytes : (options : Options) (p : Payload) (bytes : List ℕ) → taken options p ≡ Ok bytes → IsTreeOrNone (bytes_in p) → IsTreeOrNone bytes
+taken-bytes options payload.Nothing bytes e tree = absurd cc
+taken-bytes options payload.Cut bytes e tree = absurd cc
+taken-bytes options payload.Long bytes e tree = absurd cc
+taken-bytes options (payload.Whole all) bytes e tree = whole-bytes options.read_only all bytes e tree
 
-of-line : (l : Line) (p : Payload) (forest : Trees Labelled) → IsTreeOrNone (bytes_in p) → IsLabelOrNone (label_in l) → Has (AnswersLine l p forest)
-of-line line.Blank p forest tree label = shown forest []
-of-line line.Load p forest tree label = loaded p forest tree
-of-line (line.Insert place text) p forest tree label = inserted place text p forest tree label
-of-line (line.Delete text) p forest tree label =
-    with-label text (λ x. AnswersEdit (delete_refusal x forest) x (shown_count (subtree_size x forest)) (delete x forest) forest) forest
-    (λ x. edited (delete_refusal x forest) x (shown_count (subtree_size x forest)) (delete x forest) forest) label
-of-line (line.Replace text) p forest tree label = replaced text p forest tree label
-of-line (line.Search find text) p forest tree label =
+loaded : (options : Options) (p : Payload) (forest : Trees Labelled) → IsTreeOrNone (bytes_in p) → Has (AnswersLoad options p forest)
+loaded options p forest tree =
+    with-taken (taken options p) (λ bytes. AnswersBytes (planned_load options forest) bytes forest) forest
+    (λ bytes e. with-bytes (planned_load options forest) bytes forest (taken-bytes options p bytes e tree))
+
+inserted : (options : Options) (place : Place) (text : List ℕ) (p : Payload) (forest : Trees Labelled) → IsTreeOrNone (bytes_in p) → IsLabelOrNone text → Has (AnswersInsert options place text p forest)
+inserted options place text p forest tree label =
+    with-taken (taken options p) (λ bytes reply after. AnswersLabel text (λ x. AnswersBytes (planned_insert options place x forest) bytes forest reply after) (Refuses forest refusal.Label reply after)) forest
+    (λ bytes e. with-label text (λ x. AnswersBytes (planned_insert options place x forest) bytes forest) forest (λ x. with-bytes (planned_insert options place x forest) bytes forest (taken-bytes options p bytes e tree)) label)
+
+replaced : (options : Options) (text : List ℕ) (p : Payload) (forest : Trees Labelled) → IsTreeOrNone (bytes_in p) → IsLabelOrNone text → Has (AnswersReplace options text p forest)
+replaced options text p forest tree label =
+    with-taken (taken options p) (λ bytes reply after. AnswersLabel text (λ x. AnswersBytes (planned_replace options x forest) bytes forest reply after) (Refuses forest refusal.Label reply after)) forest
+    (λ bytes e. with-label text (λ x. AnswersBytes (planned_replace options x forest) bytes forest) forest (λ x. with-bytes (planned_replace options x forest) bytes forest (taken-bytes options p bytes e tree)) label)
+
+unlocked : (locked : Bool) (Answered : List ℕ → Trees Labelled → Type 0) (forest : Trees Labelled) → Has Answered → Has (λ reply after. AnswersUnlocked locked (Answered reply after) forest reply after)
+unlocked true Answered forest each = refused forest refusal.Readonly
+unlocked false Answered forest each = each
+
+deleted : (options : Options) (text : List ℕ) (forest : Trees Labelled) → IsLabelOrNone text → Has (AnswersDelete options text forest)
+deleted options text forest label =
+    unlocked options.read_only (λ reply after. AnswersLabel text (λ x. AnswersEdit (delete_refusal x forest) x (shown_count (subtree_size x forest)) (delete x forest) forest reply after) (Refuses forest refusal.Label reply after)) forest
+    (with-label text (λ x. AnswersEdit (delete_refusal x forest) x (shown_count (subtree_size x forest)) (delete x forest) forest) forest
+    (λ x. edited (delete_refusal x forest) x (shown_count (subtree_size x forest)) (delete x forest) forest) label)
+
+of-line : (options : Options) (l : Line) (p : Payload) (forest : Trees Labelled) → IsTreeOrNone (bytes_in p) → IsLabelOrNone (label_in l) → Has (AnswersLine options l p forest)
+of-line options line.Blank p forest tree label = shown forest []
+of-line options line.Load p forest tree label = loaded options p forest tree
+of-line options (line.Insert place text) p forest tree label = inserted options place text p forest tree label
+of-line options (line.Delete text) p forest tree label = deleted options text forest label
+of-line options (line.Replace text) p forest tree label = replaced options text p forest tree label
+of-line options (line.Search find text) p forest tree label =
     searched (query_refusal (query_words text)) (found_text find (query_words text) forest (roots find (query_words text) forest)) forest (refusal-known (query_words text))
-of-line (line.Show text) p forest tree label = with-label text (λ x. AnswersFound (found x forest) forest) forest (λ x. shown-found (found x forest) forest) label
-of-line line.Quit p forest tree label = shown forest []
+of-line options (line.Show text) p forest tree label = with-label text (λ x. AnswersFound (found x forest) forest) forest (λ x. shown-found (found x forest) forest) label
+of-line options line.Check p forest tree label = shown forest (sound_text (nodes forest))
+of-line options line.Quit p forest tree label = shown forest []
 
-of-form : (f : Form) (p : Payload) (forest : Trees Labelled) → IsTreeOrNone (bytes_in p) → IsLabelOrNone (label_asked f) → Has (AnswersForm f p forest)
-of-form None p forest tree label = refused forest refusal.Command
-of-form (Some l) p forest tree label = of-line l p forest tree label
+of-form : (options : Options) (f : Form) (p : Payload) (forest : Trees Labelled) → IsTreeOrNone (bytes_in p) → IsLabelOrNone (label_asked f) → Has (AnswersForm options f p forest)
+of-form options None p forest tree label = refused forest refusal.Command
+of-form options (Some l) p forest tree label = of-line options l p forest tree label
 
-pub replied : (forest : Trees Labelled) (command : Command) → IsTreeOrNone (bytes_in command.payload) → IsLabelOrNone (label_asked command.form) → HasReply forest command
+pub replied : (options : Options) (forest : Trees Labelled) (command : Command) → IsTreeOrNone (bytes_in command.payload) → IsLabelOrNone (label_asked command.form) → HasReply options forest command
 unfolding Answers
-replied forest command = of-form command.form command.payload forest
+replied options forest command = of-form options command.form command.payload forest
 
 -- none is without either, so none is without a reply
 tree_settled : (bytes : List ℕ) → (IsTreeOrNone bytes → ⊥) → ⊥
@@ -119,6 +140,6 @@ tree_settled bytes never = never (inr (λ t s. never (inl (t, s))))
 label_settled : (text : List ℕ) → (IsLabelOrNone text → ⊥) → ⊥
 label_settled text never = never (inr (λ x is e. never (inl (x, is, e))))
 
-pub never_without : (forest : Trees Labelled) (command : Command) → (HasReply forest command → ⊥) → ⊥
-never_without forest command never =
-    tree_settled (bytes_in command.payload) (λ tree. label_settled (label_asked command.form) (λ label. never (replied forest command tree label)))
+pub never_without : (options : Options) (forest : Trees Labelled) (command : Command) → (HasReply options forest command → ⊥) → ⊥
+never_without options forest command never =
+    tree_settled (bytes_in command.payload) (λ tree. label_settled (label_asked command.form) (λ label. never (replied options forest command tree label)))

@@ -2,9 +2,10 @@
 use Rattle.std.proofs.Common.{◌∷◌, ◌≡◌, ℕ, ◌+◌, ◌≤◌, List, [], ◌++◌, length, take, refl, ap, sym, subst, ◌∙◌, arith, length-append, append-nil, Some, None, Result, Ok, Err, inl, inr, ⊎_elim, false}
 use Rattle.std.specs.declared.option.Option.{Option}
 use Rattle.std.specs.Io.KnownBytes.{prepend_known, append_known, IsAtEnd}
-use Rattle.mm_host.specs.Causes.{HasCause, next_count}
+use Rattle.mm_host.specs.Causes.{HasCause, Rose, next_count}
 use Rattle.mm_host.specs.Moves.{WritesAll}
 use Rattle.mm_host.specs.declared.failed.Failed.{Failed}
+use Rattle.mm_keeper.specs.Failing.{FailsAsListed}
 use Rattle.mm_tree.specs.Trees.{Trees, none}
 use Rattle.mm_tree.specs.Numbering.{Labelled}
 use Rattle.mm_run.specs.declared.command.Command.{Command}
@@ -15,7 +16,10 @@ use Rattle.mm_run.specs.Commands.{commands, all_commands}
 use Rattle.mm_run.specs.Inside.Input.{rest, reach}
 use Rattle.mm_run.specs.Statuses.{fault_line, sink_faults_after, HasSinkFaults}
 use Rattle.mm_run.specs.Run.{AreAnswered, HasEnd, HasLine, IsShown, Runs, input_limit}
-use Rattle.mm_run.specs.Inside.Turning.{State, Served, HasStopped, IsFront, EndsWith}
+use Rattle.mm_run.specs.Steps.{AllowsUnfinished}
+use Rattle.mm_run.specs.Inside.Turning.{Served, HasStopped, IsFront, EndsWith}
+use Rattle.mm_run.specs.Turns.{State}
+use Rattle.mm_options.specs.declared.options.Options.{Options}
 use Rattle.mm_run.proofs.Going.{prepend_known-nil, prepend_known-append}
 use Rattle.mm_run.proofs.Turns.{known-rest, append_known-twice}
 
@@ -53,47 +57,56 @@ told-end status.Usage left' held got bytes room steps written forest answered mo
 told-end status.TooMuchInput left' held got bytes room steps written forest answered moved count stopped = (omega (arith, stopped.0, count, length-append got held), stopped.1)
 told-end s left' held got bytes room steps written forest answered moved count stopped = tt
 
-module _ (left left' written written' : Option (List ℕ)) (buffer buffer' : Buffered) (forest forest' : Trees Labelled) (steps steps' faults faults' : ℕ)
-    (nothing : buffer.held ≡ []) (room : buffer.room ≡ input_limit) (empty : forest ≡ none) where
-  -- the same from the empty buffer and the empty forest
-  from-start : (new : State) (s : Status) → Served (record { rest = rest left buffer; reach = reach buffer; written = written; forest = forest; steps = steps }) new s
-      → Served (record { rest = left; reach = input_limit; written = written; forest = none; steps = steps }) new s
-  from-start new s served =
-      subst (λ (f : Trees Labelled). Served (record { rest = left; reach = input_limit; written = written; forest = f; steps = steps }) new s) empty
-      (subst (λ (n : ℕ). Served (record { rest = left; reach = n; written = written; forest = forest; steps = steps }) new s) (full-reach buffer nothing room)
-      (subst (λ (r : Option (List ℕ)). Served (record { rest = r; reach = reach buffer; written = written; forest = forest; steps = steps }) new s) (bare left buffer nothing) served))
+module _ (left left' written written' : Option (List ℕ)) (buffer buffer' : Buffered) (forest' : Trees Labelled) (steps steps' faults faults' : ℕ)
+    (nothing : buffer.held ≡ []) (room : buffer.room ≡ input_limit) where
+  -- the same from the empty buffer
+  from-start : (options : Options) (new : State) (s : Status)
+      → Served options (record { rest = rest left buffer; reach = reach buffer; written = written; forest = none; steps = steps }) new s
+      → Served options (record { rest = left; reach = input_limit; written = written; forest = none; steps = steps }) new s
+  from-start options new s served =
+      subst (λ (n : ℕ). Served options (record { rest = left; reach = n; written = written; forest = none; steps = steps }) new s) (full-reach buffer nothing room)
+      (subst (λ (r : Option (List ℕ)). Served options (record { rest = r; reach = reach buffer; written = written; forest = none; steps = steps }) new s) (bare left buffer nothing) served)
 
-  pub tells : (bytes : List ℕ) (s : Status) → left ≡ Some bytes → (s ≡ status.SourceFault → buffer'.held ≡ []) → faults' ≡ sink_faults_after s faults
-      → Served (record { rest = rest left buffer; reach = reach buffer; written = written; forest = forest; steps = steps })
+  pub tells : (options : Options) (bytes : List ℕ) (s : Status) → left ≡ Some bytes → (s ≡ status.SourceFault → buffer'.held ≡ []) → faults' ≡ sink_faults_after s faults
+      → Served options (record { rest = rest left buffer; reach = reach buffer; written = written; forest = none; steps = steps })
       (record { rest = rest left' buffer'; reach = reach buffer'; written = written'; forest = forest'; steps = steps' }) s
-      → Runs [] (record { left = left; written = written; sink_faults = faults; steps = steps }) (record { left = left'; written = written'; sink_faults = faults'; steps = steps' }) bytes s
-  tells bytes s known held count served =
-      let h = (from-start _ s served).each bytes known in
-      record {
-        taken = h.got ++ buffer'.held;
-        left = h.moved.bytes ∙ sym (prepend_known-append h.got buffer'.held left');
-        few = omega (arith, h.moved.count, length-append h.got buffer'.held);
-        answered = h.answered;
-        others = h.others;
-        split = h.split;
-        which = told-which s h.got buffer'.held h.answered h.others held h.which;
-        end = told-end s left' buffer'.held h.got bytes buffer'.room steps' written' forest' h.answered (sym known ∙ h.moved.bytes) h.moved.count h.stopped;
-        replies = h.replies;
-        after = h.after;
-        answers = h.answers;
-        shown = h.shown;
-        is_shown = told-shown s faults faults' h.replies h.shown count h.is_front;
-        written = h.written;
-        total = h.total;
-        costs = h.costs;
-        steps = h.steps;
-      }
+      → (r : Runs options [] (record { left = left; written = written; sink_faults = faults; steps = steps }) (record { left = left'; written = written'; sink_faults = faults'; steps = steps' }) bytes s) × (s ≡ status.Ok → r.after ≡ forest')
+  tells options bytes s known held count served =
+      let h = (from-start options _ s served).each bytes known in (
+        record {
+          taken = h.got ++ buffer'.held;
+          left = h.moved.bytes ∙ sym (prepend_known-append h.got buffer'.held left');
+          few = omega (arith, h.moved.count, length-append h.got buffer'.held);
+          answered = h.answered;
+          others = h.others;
+          split = h.split;
+          which = told-which s h.got buffer'.held h.answered h.others held h.which;
+          end = told-end s left' buffer'.held h.got bytes buffer'.room steps' written' forest' h.answered (sym known ∙ h.moved.bytes) h.moved.count h.stopped;
+          replies = h.replies;
+          after = h.after;
+          answers = h.answers;
+          shown = h.shown;
+          is_shown = told-shown s faults faults' h.replies h.shown count h.is_front;
+          written = h.written;
+          total = h.total;
+          costs = h.costs;
+          unfinished = h.unfinished;
+          allowed = h.allowed;
+          steps = h.steps;
+        },
+        h.last,
+      )
+
+none-unfinished : (options : Options) (s : Status) (others : List Command) → AllowsUnfinished options s none others 0
+none-unfinished options status.Memory others = inl refl
+none-unfinished options status.DiskFault others = inl refl
+none-unfinished options s others = refl
 
 -- nothing was read, and no command answered
-pub told-nothing : (line : List ℕ) (left written written' : Option (List ℕ)) (shown : List ℕ) (faults faults' steps steps' : ℕ) (bytes : List ℕ) (s : Status) → written' ≡ append_known written shown → steps' ≤ steps
+pub told-nothing : (options : Options) (line : List ℕ) (left written written' : Option (List ℕ)) (shown : List ℕ) (faults faults' steps steps' : ℕ) (bytes : List ℕ) (s : Status) → written' ≡ append_known written shown → steps' ≤ steps
     → ((others : List Command) → AreAnswered [] s [] others) → HasEnd left bytes [] [] s → IsShown faults faults' [] line shown s
-    → Runs line (record { left = left; written = written; sink_faults = faults; steps = steps }) (record { left = left; written = written'; sink_faults = faults'; steps = steps' }) bytes s
-told-nothing line left written written' shown faults faults' steps steps' bytes s wrote most which end is_shown = record {
+    → Runs options line (record { left = left; written = written; sink_faults = faults; steps = steps }) (record { left = left; written = written'; sink_faults = faults'; steps = steps' }) bytes s
+told-nothing options line left written written' shown faults faults' steps steps' bytes s wrote most which end is_shown = record {
   taken = [];
   left = sym (prepend_known-nil left);
   few = omega arith;
@@ -110,6 +123,8 @@ told-nothing line left written written' shown faults faults' steps steps' bytes 
   written = wrote;
   total = 0;
   costs = (refl, refl);
+  unfinished = 0;
+  allowed = none-unfinished options s (all_commands input_limit bytes);
   steps = omega (arith, most);
 }
 
@@ -123,7 +138,7 @@ line-written a b piece line before now (Err e) same wrote cause = record {
 }
 
 -- no line, and so no failure at it
-no-line : (replies shown : List ℕ) (before now : ℕ) → HasLine before now replies [] shown → (shown ≡ replies) × (now ≡ before)
+pub no-line : (replies shown : List ℕ) (before now : ℕ) → HasLine before now replies [] shown → (shown ≡ replies) × (now ≡ before)
 no-line replies shown before now has = ⊎_elim (λ h. (h.0 ∙ append-nil replies, h.1)) (λ h. absurd (omega (arith, h.1))) has
 
 -- the replies whole, and then the line
@@ -141,10 +156,10 @@ shown-more status.SinkFault replies first second n m k told end = (told.0, told.
 shown-more s replies first second n m k told end = shown-line replies (fault_line s) first second n m k told end
 
 -- What was told, and then the fault's line.
-pub writes : (left left' a b c : Option (List ℕ)) (n m k steps steps' : ℕ) (bytes : List ℕ) (s : Status)
-    → Runs [] (record { left = left; written = a; sink_faults = n; steps = steps }) (record { left = left'; written = b; sink_faults = m; steps = steps' }) bytes s → EndsWith b c (fault_line s) m k
-    → Runs (fault_line s) (record { left = left; written = a; sink_faults = n; steps = steps }) (record { left = left'; written = c; sink_faults = k; steps = steps' }) bytes s
-writes left left' a b c n m k steps steps' bytes s told end = record {
+pub writes : (options : Options) (left left' a b c : Option (List ℕ)) (n m k steps steps' : ℕ) (bytes : List ℕ) (s : Status)
+    → Runs options [] (record { left = left; written = a; sink_faults = n; steps = steps }) (record { left = left'; written = b; sink_faults = m; steps = steps' }) bytes s → EndsWith b c (fault_line s) m k
+    → Runs options (fault_line s) (record { left = left; written = a; sink_faults = n; steps = steps }) (record { left = left'; written = c; sink_faults = k; steps = steps' }) bytes s
+writes options left left' a b c n m k steps steps' bytes s told end = record {
   taken = told.taken;
   left = told.left;
   few = told.few;
@@ -161,6 +176,8 @@ writes left left' a b c n m k steps steps' bytes s told end = record {
   written = end.written ∙ ap (λ w. append_known w end.shown) told.written ∙ append_known-twice a told.shown end.shown;
   total = told.total;
   costs = told.costs;
+  unfinished = told.unfinished;
+  allowed = told.allowed;
   steps = told.steps;
 }
 
@@ -170,3 +187,8 @@ unfolding fault_line
 counts status.Ok b c n m k count end = (no-line [] end.shown m k end.whole).1 ∙ count
 counts status.SinkFault b c n m k count end = (no-line [] end.shown m k end.whole).1 ∙ count
 counts s b c n m k count end = ⊎_elim (λ h. inl (h.1 ∙ count)) (λ h. inr (h.3 ∙ ap next_count count)) end.whole
+
+-- A keeper in memory that is to fail at no call doesn't fail.
+pub never_fails : (calls : List ℕ) (faults : ℕ) → calls ≡ [] → FailsAsListed calls faults → Rose 0 faults → ⊥
+never_fails [] faults no_calls listed rose = absurd (omega (arith, listed, rose))
+never_fails (call ∷ calls) faults no_calls listed rose = absurd cc

@@ -1,5 +1,5 @@
 -- What commands are answered, and the forests after them.
-use Rattle.std.specs.Prelude.{◌≡◌, ℕ, ℤ, if◌then◌else◌, ◌&&◌, not, nat_le, List, [], ◌∷◌, ◌++◌, Some, None, ◌⊎◌}
+use Rattle.std.specs.Prelude.{◌≡◌, ℕ, ℤ, Bool, true, false, if◌then◌else◌, ◌&&◌, not, nat_le, List, [], ◌∷◌, ◌++◌, Some, None, Result, Ok, Err, ◌⊎◌}
 use Rattle.std.specs.declared.option.Option.{Option}
 use Rattle.mm_label.specs.Label.{IsLabel}
 use Rattle.mm_label.specs.Text.{text_of, IsNoLabelText}
@@ -18,16 +18,18 @@ use Rattle.mm_tree.specs.Edits.{found, has_node, is_inside, is_text_node, subtre
 use Rattle.mm_tree.specs.Search.{worded, slca}
 use Rattle.mm_tree.specs.Elca.{elca}
 use Rattle.mm_tree.specs.Hits.{hits_of}
+use Rattle.mm_edit.specs.Plans.{or_full}
 use Rattle.mm_fragment.specs.Showing.{fragments_of}
 use Rattle.mm_xml.specs.Grammar.{Spells}
 use Rattle.mm_command.specs.declared.line.Line.{Line}
 use Rattle.mm_command.specs.declared.line.Line.TheVariants as line
 use Rattle.mm_command.specs.declared.line.Find.{Find}
 use Rattle.mm_command.specs.declared.line.Find.TheVariants as find
-use Rattle.mm_command.specs.Replies.{refused_text, done_text, hits_text, fragments_text, tree_text, shown_count}
+use Rattle.mm_command.specs.Replies.{refused_text, done_text, hits_text, fragments_text, sound_text, tree_text, shown_count}
 use Rattle.mm_run.specs.Forms.{Form}
 use Rattle.mm_run.specs.declared.command.Command.{Command}
 use Rattle.mm_run.specs.declared.command.Payload.{Payload}
+use Rattle.mm_options.specs.declared.options.Options.{Options}
 use Rattle.mm_run.specs.declared.command.Payload.TheVariants as payload
 
 -- a command is refused: its reply says so, and the forest stays as it was
@@ -82,10 +84,10 @@ AnswersBytes plan bytes forest reply after =
     ((t : Tree Kind) × Spells bytes t × AnswersEdit (tree_refusal plan t) plan.label (nodes (one t)) (plan.edited t) forest reply after)
     ⊎ (((t : Tree Kind) → ¬ Spells bytes t) × RefusesFirst plan.target refusal.Xml forest reply after)
 
-abbrev pub planned_load : Trees Labelled → Planned
-planned_load forest = record {
+abbrev pub planned_load : Options → Trees Labelled → Planned
+planned_load options forest = record {
   target = None;
-  refusal = λ t. load_refusal t forest;
+  refusal = λ t. or_full (load_refusal t forest) options.limit (load t forest);
   label = next_label forest;
   edited = λ t. load t forest;
 }
@@ -95,18 +97,18 @@ abbrev pub target_refusal : Place → List ℤ → Trees Labelled → Option Ref
 target_refusal place x forest =
     if not (has_node x forest) then Some refusal.Absent else (if is_inside place && is_text_node (found x forest) then Some refusal.Leaf else None)
 
-abbrev pub planned_insert : Place → List ℤ → Trees Labelled → Planned
-planned_insert place x forest = record {
+abbrev pub planned_insert : Options → Place → List ℤ → Trees Labelled → Planned
+planned_insert options place x forest = record {
   target = target_refusal place x forest;
-  refusal = λ t. insert_refusal place x t forest;
+  refusal = λ t. or_full (insert_refusal place x t forest) options.limit (insert place x t forest);
   label = inserted_label place x forest;
   edited = λ t. insert place x t forest;
 }
 
-abbrev pub planned_replace : List ℤ → Trees Labelled → Planned
-planned_replace x forest = record {
+abbrev pub planned_replace : Options → List ℤ → Trees Labelled → Planned
+planned_replace options x forest = record {
   target = delete_refusal x forest;
-  refusal = λ t. replace_refusal x t forest;
+  refusal = λ t. or_full (replace_refusal x t forest) options.limit (replace x t forest);
   label = x;
   edited = λ t. replace x t forest;
 }
@@ -119,29 +121,36 @@ AnswersLabel text Answered Refused = ((x : List ℤ) × IsLabel x × (text_of x 
 
 -- ---- lines
 
-abbrev pub AnswersLoad : Payload → Trees Labelled → List ℕ → Trees Labelled → Type 0
-AnswersLoad payload.Nothing forest reply after = Refuses forest refusal.Command reply after
-AnswersLoad payload.Cut forest reply after = Refuses forest refusal.Command reply after
-AnswersLoad payload.Long forest reply after = Refuses forest refusal.Size reply after
-AnswersLoad (payload.Whole bytes) forest reply after = AnswersBytes (planned_load forest) bytes forest reply after
+-- the bytes of an edit's payload, or why it is refused whatever they are
+abbrev pub taken : Options → Payload → Result (List ℕ) Refusal
+taken options payload.Nothing = Err refusal.Command
+taken options payload.Cut = Err refusal.Command
+taken options payload.Long = Err refusal.Size
+taken options (payload.Whole bytes) = if options.read_only then Err refusal.Readonly else Ok bytes
 
-abbrev pub AnswersInsert : Place → List ℕ → Payload → Trees Labelled → List ℕ → Trees Labelled → Type 0
-AnswersInsert place text payload.Nothing forest reply after = Refuses forest refusal.Command reply after
-AnswersInsert place text payload.Cut forest reply after = Refuses forest refusal.Command reply after
-AnswersInsert place text payload.Long forest reply after = Refuses forest refusal.Size reply after
-AnswersInsert place text (payload.Whole bytes) forest reply after =
-    AnswersLabel text (λ x. AnswersBytes (planned_insert place x forest) bytes forest reply after) (Refuses forest refusal.Label reply after)
+abbrev pub AnswersTaken : Result (List ℕ) Refusal → (List ℕ → Type 0) → Trees Labelled → List ℕ → Trees Labelled → Type 0
+AnswersTaken (Err r) Answered forest reply after = Refuses forest r reply after
+AnswersTaken (Ok bytes) Answered forest reply after = Answered bytes
 
-abbrev pub AnswersReplace : List ℕ → Payload → Trees Labelled → List ℕ → Trees Labelled → Type 0
-AnswersReplace text payload.Nothing forest reply after = Refuses forest refusal.Command reply after
-AnswersReplace text payload.Cut forest reply after = Refuses forest refusal.Command reply after
-AnswersReplace text payload.Long forest reply after = Refuses forest refusal.Size reply after
-AnswersReplace text (payload.Whole bytes) forest reply after =
-    AnswersLabel text (λ x. AnswersBytes (planned_replace x forest) bytes forest reply after) (Refuses forest refusal.Label reply after)
+abbrev pub AnswersLoad : Options → Payload → Trees Labelled → List ℕ → Trees Labelled → Type 0
+AnswersLoad options payload forest reply after = AnswersTaken (taken options payload) (λ bytes. AnswersBytes (planned_load options forest) bytes forest reply after) forest reply after
 
-abbrev pub AnswersDelete : List ℕ → Trees Labelled → List ℕ → Trees Labelled → Type 0
-AnswersDelete text forest reply after =
-    AnswersLabel text (λ x. AnswersEdit (delete_refusal x forest) x (shown_count (subtree_size x forest)) (delete x forest) forest reply after) (Refuses forest refusal.Label reply after)
+abbrev pub AnswersInsert : Options → Place → List ℕ → Payload → Trees Labelled → List ℕ → Trees Labelled → Type 0
+AnswersInsert options place text payload forest reply after = AnswersTaken (taken options payload)
+    (λ bytes. AnswersLabel text (λ x. AnswersBytes (planned_insert options place x forest) bytes forest reply after) (Refuses forest refusal.Label reply after)) forest reply after
+
+abbrev pub AnswersReplace : Options → List ℕ → Payload → Trees Labelled → List ℕ → Trees Labelled → Type 0
+AnswersReplace options text payload forest reply after = AnswersTaken (taken options payload)
+    (λ bytes. AnswersLabel text (λ x. AnswersBytes (planned_replace options x forest) bytes forest reply after) (Refuses forest refusal.Label reply after)) forest reply after
+
+-- an edit is refused where edits are
+abbrev pub AnswersUnlocked : Bool → Type 0 → Trees Labelled → List ℕ → Trees Labelled → Type 0
+AnswersUnlocked true Answered forest reply after = Refuses forest refusal.Readonly reply after
+AnswersUnlocked false Answered forest reply after = Answered
+
+abbrev pub AnswersDelete : Options → List ℕ → Trees Labelled → List ℕ → Trees Labelled → Type 0
+AnswersDelete options text forest reply after = AnswersUnlocked options.read_only
+    (AnswersLabel text (λ x. AnswersEdit (delete_refusal x forest) x (shown_count (subtree_size x forest)) (delete x forest) forest reply after) (Refuses forest refusal.Label reply after)) forest reply after
 
 abbrev pub AnswersFound : Option (Tree Labelled) → Trees Labelled → List ℕ → Trees Labelled → Type 0
 AnswersFound None forest reply after = Refuses forest refusal.Absent reply after
@@ -177,26 +186,27 @@ AnswersSearch find text forest reply after =
     AnswersQuery (query_refusal (query_words text)) (found_text find (query_words text) forest (roots find (query_words text) forest)) forest reply after
 
 -- What a line with its payload is answered.
-abbrev pub AnswersLine : Line → Payload → Trees Labelled → List ℕ → Trees Labelled → Type 0
-AnswersLine line.Blank payload forest reply after = Shows forest [] reply after
-AnswersLine line.Load payload forest reply after = AnswersLoad payload forest reply after
-AnswersLine (line.Insert place label) payload forest reply after = AnswersInsert place label payload forest reply after
-AnswersLine (line.Delete label) payload forest reply after = AnswersDelete label forest reply after
-AnswersLine (line.Replace label) payload forest reply after = AnswersReplace label payload forest reply after
-AnswersLine (line.Search find text) payload forest reply after = AnswersSearch find text forest reply after
-AnswersLine (line.Show label) payload forest reply after = AnswersShow label forest reply after
-AnswersLine line.Quit payload forest reply after = Shows forest [] reply after
+abbrev pub AnswersLine : Options → Line → Payload → Trees Labelled → List ℕ → Trees Labelled → Type 0
+AnswersLine options line.Blank payload forest reply after = Shows forest [] reply after
+AnswersLine options line.Load payload forest reply after = AnswersLoad options payload forest reply after
+AnswersLine options (line.Insert place label) payload forest reply after = AnswersInsert options place label payload forest reply after
+AnswersLine options (line.Delete label) payload forest reply after = AnswersDelete options label forest reply after
+AnswersLine options (line.Replace label) payload forest reply after = AnswersReplace options label payload forest reply after
+AnswersLine options (line.Search find text) payload forest reply after = AnswersSearch find text forest reply after
+AnswersLine options (line.Show label) payload forest reply after = AnswersShow label forest reply after
+AnswersLine options line.Check payload forest reply after = Shows forest (sound_text (nodes forest)) reply after
+AnswersLine options line.Quit payload forest reply after = Shows forest [] reply after
 
-abbrev pub AnswersForm : Form → Payload → Trees Labelled → List ℕ → Trees Labelled → Type 0
-AnswersForm None payload forest reply after = Refuses forest refusal.Command reply after
-AnswersForm (Some line) payload forest reply after = AnswersLine line payload forest reply after
+abbrev pub AnswersForm : Options → Form → Payload → Trees Labelled → List ℕ → Trees Labelled → Type 0
+AnswersForm options None payload forest reply after = Refuses forest refusal.Command reply after
+AnswersForm options (Some line) payload forest reply after = AnswersLine options line payload forest reply after
 
 -- What a command is answered in a forest, and the forest after it.
-unfoldable pub Answers : Trees Labelled → Command → List ℕ → Trees Labelled → Type 0
-Answers forest command reply after = AnswersForm command.form command.payload forest reply after
+unfoldable pub Answers : Options → Trees Labelled → Command → List ℕ → Trees Labelled → Type 0
+Answers options forest command reply after = AnswersForm options command.form command.payload forest reply after
 
 -- What commands are answered, one after the other, and the forest after them all.
-abbrev pub Replies : Trees Labelled → List Command → List ℕ → Trees Labelled → Type 0
-Replies forest [] replies after = (replies ≡ []) × (after ≡ forest)
-Replies forest (command ∷ commands) replies after =
-    (reply rest : List ℕ) × (next : Trees Labelled) × Answers forest command reply next × Replies next commands rest after × (replies ≡ reply ++ rest)
+abbrev pub Replies : Options → Trees Labelled → List Command → List ℕ → Trees Labelled → Type 0
+Replies options forest [] replies after = (replies ≡ []) × (after ≡ forest)
+Replies options forest (command ∷ commands) replies after =
+    (reply rest : List ℕ) × (next : Trees Labelled) × Answers options forest command reply next × Replies options next commands rest after × (replies ≡ reply ++ rest)

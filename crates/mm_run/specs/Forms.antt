@@ -3,7 +3,7 @@ use Rattle.std.specs.Prelude.{ℕ, Bool, true, false, List}
 use Rattle.std.specs.declared.option.Option.{Option}
 use Rattle.std.specs.declared.option.Option.TheVariants.{Some, None}
 use Rattle.mm_command.specs.declared.line.Line.{Line}
-use Rattle.mm_command.specs.declared.line.Line.TheVariants.{Blank, Load, Insert, Delete, Replace, Search, Show, Quit}
+use Rattle.mm_command.specs.declared.line.Line.TheVariants.{Blank, Load, Insert, Delete, Replace, Search, Show, Check, Quit}
 use Rattle.mm_command.specs.Lines.{line_of}
 
 -- what a line asks for, or None where it is in no form
@@ -22,6 +22,7 @@ has_payload (Delete label) = false
 has_payload (Replace label) = true
 has_payload (Search find text) = false
 has_payload (Show label) = false
+has_payload Check = false
 has_payload Quit = false
 
 abbrev pub takes_payload : Form → Bool
@@ -37,6 +38,7 @@ ends_run (Delete label) = false
 ends_run (Replace label) = false
 ends_run (Search find text) = false
 ends_run (Show label) = false
+ends_run Check = false
 ends_run Quit = true
 
 abbrev pub quits : Form → Bool

@@ -1,7 +1,8 @@
 -- What private contracts and proofs speak of.
 pub mod Turning
+pub mod Telling
 pub mod Step
 pub mod Input
 pub mod Buffer
-pub mod Told
+pub mod Carrying
 pub mod Edits

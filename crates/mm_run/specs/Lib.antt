@@ -5,6 +5,9 @@ pub mod Commands
 pub mod Answers
 pub mod Settled
 pub mod Steps
+pub mod Stores
 pub mod Statuses
+pub mod Turns
 pub mod Run
+pub mod Sample
 pub mod Inside

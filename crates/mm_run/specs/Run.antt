@@ -10,7 +10,8 @@ use Rattle.mm_run.specs.declared.status.Status.{Status}
 use Rattle.mm_run.specs.declared.status.Status.TheVariants as status
 use Rattle.mm_run.specs.Commands.{commands, all_commands, HasQuit, HasNoQuit}
 use Rattle.mm_run.specs.Answers.{Replies}
-use Rattle.mm_run.specs.Steps.{Costs, unfinished_cost}
+use Rattle.mm_options.specs.declared.options.Options.{Options}
+use Rattle.mm_run.specs.Steps.{Costs, AllowsUnfinished}
 
 -- how many bytes a run takes at most
 abbrev pub input_limit : ℕ
@@ -29,7 +30,7 @@ AreAnswered taken status.Ok answered others = others ≡ []
 AreAnswered taken status.Usage answered others = answered ≡ []
 AreAnswered taken status.SourceFault answered others = answered ≡ commands taken false
 AreAnswered taken status.SinkFault answered others = Unit {0}
-AreAnswered taken status.DiskFault answered others = ⊥
+AreAnswered taken status.DiskFault answered others = Unit {0}
 AreAnswered taken (status.Damaged damage) answered others = ⊥
 AreAnswered taken status.Memory answered others = Unit {0}
 AreAnswered taken status.TooMuchInput answered others = others ≡ []
@@ -51,8 +52,8 @@ abbrev pub IsShown : (before now : ℕ) → (replies line shown : List ℕ) → 
 IsShown before now replies line shown status.SinkFault = (n : ℕ) × (n < length replies) × (shown ≡ take n replies)
 IsShown before now replies line shown s = HasLine before now replies line shown
 
--- A run from a source that held these bytes ended with this status, and with this line of a fault.
-pub record Runs (line : List ℕ) (old new : Streams) (bytes : List ℕ) (s : Status) : Type 0 where
+-- A run with these options from a source that held these bytes ended with this status, and with this line of a fault.
+pub record Runs (options : Options) (line : List ℕ) (old new : Streams) (bytes : List ℕ) (s : Status) : Type 0 where
   -- the bytes that left the source
   pub taken : List ℕ
   pub left : old.left ≡ prepend_known taken new.left
@@ -66,12 +67,14 @@ pub record Runs (line : List ℕ) (old new : Streams) (bytes : List ℕ) (s : St
   -- from the empty forest, the answered ones have these replies
   pub replies : List ℕ
   pub after : Trees Labelled
-  pub answers : Replies none answered replies after
+  pub answers : Replies options none answered replies after
   -- what was written
   pub shown : List ℕ
   pub is_shown : IsShown old.sink_faults new.sink_faults replies line shown s
   pub written : new.written ≡ append_known old.written shown
   -- the steps are at most those of the answered ones, and where memory ran out those of the next one too
   pub total : ℕ
-  pub costs : Costs none answered after total
-  pub steps : new.steps ≤ old.steps + (total + unfinished_cost s after others)
+  pub costs : Costs options none answered after total
+  pub unfinished : ℕ
+  pub allowed : AllowsUnfinished options s after others unfinished
+  pub steps : new.steps ≤ old.steps + (total + unfinished)

@@ -8,10 +8,11 @@ use Rattle.mm_tree.specs.Numbering.{Labelled}
 use Rattle.mm_tree.specs.declared.plain.Kind.{Kind}
 use Rattle.mm_xml.specs.Grammar.{Spells}
 use Rattle.mm_command.specs.declared.line.Line.{Line}
-use Rattle.mm_command.specs.declared.line.Line.TheVariants.{Blank, Load, Insert, Delete, Replace, Search, Show, Quit}
+use Rattle.mm_command.specs.declared.line.Line.TheVariants.{Blank, Load, Insert, Delete, Replace, Search, Show, Check, Quit}
 use Rattle.mm_run.specs.declared.command.Command.{Command}
 use Rattle.mm_run.specs.declared.command.Payload.{Payload}
 use Rattle.mm_run.specs.declared.command.Payload.TheVariants.{Nothing, Cut, Long, Whole}
+use Rattle.mm_options.specs.declared.options.Options.{Options}
 use Rattle.mm_run.specs.Forms.{Form}
 use Rattle.mm_run.specs.Answers.{Answers}
 
@@ -39,6 +40,7 @@ label_in (Delete text) = text
 label_in (Replace text) = text
 label_in (Search find text) = []
 label_in (Show text) = text
+label_in Check = []
 label_in Quit = []
 
 abbrev pub label_asked : Form → List ℕ
@@ -46,5 +48,5 @@ label_asked None = []
 label_asked (Some line) = label_in line
 
 -- the command has a reply in the forest, and leaves a forest
-abbrev pub HasReply : Trees Labelled → Command → Type 0
-HasReply forest command = (reply : List ℕ) × (after : Trees Labelled) × Answers forest command reply after
+abbrev pub HasReply : Options → Trees Labelled → Command → Type 0
+HasReply options forest command = (reply : List ℕ) × (after : Trees Labelled) × Answers options forest command reply after

@@ -1,5 +1,5 @@
 -- What each status comes to.
-use Rattle.std.specs.Prelude.{◌≡◌, ◌⊎◌, ℕ, List, [], ◌∷◌, ◌++◌, codes}
+use Rattle.std.specs.Prelude.{◌≡◌, ◌⊎◌, ℕ, List, [], ◌∷◌, ◌++◌, Result, Ok, Err, codes}
 use Rattle.mm_host.specs.Causes.{next_count}
 use Rattle.mm_run.specs.declared.status.Status.{Status}
 use Rattle.mm_run.specs.declared.status.Status.TheVariants as status
@@ -25,6 +25,11 @@ number_of status.DiskFault = 4
 number_of (status.Damaged damage) = 5
 number_of status.Memory = 6
 number_of status.TooMuchInput = 8
+
+-- the status of an end, and Ok before it
+abbrev pub status_of : {T : Type 0} → Result T Status → Status
+status_of (Ok x) = status.Ok
+status_of (Err s) = s
 
 -- how often the source has failed after a run that ends so, of how often before
 abbrev pub source_faults_after : Status → ℕ → ℕ

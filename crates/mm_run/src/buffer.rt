@@ -15,6 +15,9 @@ use std::marker::Model;
 /// How many bytes are asked of a source at a time.
 const PIECE: usize = 65_536;
 
+/// How many bytes a run takes at most.
+pub const INPUT_LIMIT: u64 = 1 << 40;
+
 /// Bytes that were taken and not yet handed out, and how many more may be taken.
 #[derive(Drop)]
 pub struct Buffer {

@@ -21,8 +21,12 @@ fn has_payload(line: &Line) -> bool
 {
     match line {
         Line::Load | Line::Insert { .. } | Line::Replace { .. } => true,
-        Line::Blank | Line::Delete { .. } | Line::Search { .. } | Line::Show { .. } | Line::Quit =>
-            false,
+        Line::Blank
+        | Line::Delete { .. }
+        | Line::Search { .. }
+        | Line::Show { .. }
+        | Line::Check
+        | Line::Quit => false,
     }
 }
 
@@ -47,7 +51,8 @@ fn ends_run(line: &Line) -> bool
         | Line::Delete { .. }
         | Line::Replace { .. }
         | Line::Search { .. }
-        | Line::Show { .. } => false,
+        | Line::Show { .. }
+        | Line::Check => false,
     }
 }
 

@@ -1,8 +1,10 @@
 // How a run ends.
-ghost use Rattle.std.specs.Prelude.{◌≡◌};
+ghost use Rattle.std.specs.Prelude.{◌≡◌, ◌≢◌};
+ghost use Rattle.mm_host.specs.declared.damage.Fault.TheVariants as fault;
+ghost use Rattle.mm_run.specs.Inside.Turning.{IsStoreFault, status_at};
 ghost use Rattle.mm_run.specs.Statuses.{number_of, fault_line};
 
-use mm_host::Damage;
+use mm_host::{Damage, Fault};
 
 /// How a run ended: at the first fault, or with none.
 #[derive(Debug, Drop)]
@@ -66,4 +68,18 @@ pub enum Went {
     Answered,
     /// No command is left, or the last one was `quit`.
     Ended,
+}
+
+/// The status of a run that a store's fault ends. A store that isn't spent doesn't answer that it is.
+pub fn status_at(why: Fault) -> Status
+    requires { why ≢ fault.Spent }
+    ensures is { result ≡ status_at why }
+    ensures sort { IsStoreFault result }
+{
+    match why {
+        Fault::DiskFault => Status::DiskFault,
+        Fault::Damaged(damage) => Status::Damaged(damage),
+        Fault::Memory => Status::Memory,
+        Fault::Spent => unreachable!(),
+    }
 }

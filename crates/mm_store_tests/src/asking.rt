@@ -27,6 +27,7 @@ pub enum Asked<'a> {
     Replace(&'a str, &'a str),
     Search(Find, &'a str),
     Show(&'a str),
+    Check,
 }
 
 /// The tree of a text.
@@ -158,6 +159,10 @@ fn ask<K: Keeper, L: Ledger>(
         }
         Asked::Search(find, text) => search(alloc, find, text, store, steps),
         Asked::Show(text) => show(alloc, text, store, steps),
+        Asked::Check => match store.check(steps) {
+            Ok(verdict) => Ok(Reply::Checked(verdict)),
+            Err(fault) => Err(StoreError::Fault(fault)),
+        },
     }
 }
 

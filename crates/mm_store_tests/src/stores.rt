@@ -3,8 +3,10 @@
 ghost use Rattle.std.specs.Prelude.{◌≡◌, ◌<◌, ◌≤◌, ◌^◌};
 
 use crate::asking::{Asked, replies};
-use mm_command::Find;
+use mm_check::Verdict;
+use mm_command::{Find, Reply, write_reply};
 use mm_examples::documents::{BIBLIOGRAPHY, NOTES};
+use mm_host::Bytes;
 use mm_keeper::{Keeper, VecKeeper};
 use mm_steps::Steps;
 use mm_store::Store;
@@ -15,9 +17,11 @@ use std::sync::ledger::{Blank, Ledger};
 use std::test::Fail;
 
 /// Calls one after the other, each with its reply.
-const CALLS: [(Asked<'static>, &str); 17] = [
+const CALLS: [(Asked<'static>, &str); 20] = [
+    (Asked::Check, "sound 0\n"),
     (Asked::Show("1"), "no 17 absent\n"),
     (Asked::Load(BIBLIOGRAPHY), "ok 1 11\n"),
+    (Asked::Check, "sound 11\n"),
     (
         Asked::Search(Find::Slca, "search liu"),
         "hits 1\n1.1 book\n",
@@ -57,6 +61,7 @@ const CALLS: [(Asked<'static>, &str); 17] = [
         Asked::Show("3"),
         "tree 3 8\n<bib><book>xml liu</book><x>Liu</x>more words<author>liu</author></bib>\n",
     ),
+    (Asked::Check, "sound 8\n"),
 ];
 
 /// How many calls get their replies before the first that doesn't.
@@ -161,5 +166,18 @@ fn ticked_uncounted(alloc: Global, failing: &[u64]) -> Result<(bool, u64, u64, b
 fn a_store_that_fails_once_answers_no_more(rt: HostRuntime) -> Result<(), Fail> {
     assert_eq!(rt; ticked_uncounted(rt.alloc(), &[])?, (true, 0, 0, true));
     assert_eq!(rt; ticked_uncounted(rt.alloc(), &[1])?, (false, 0, 1, false));
+    Ok(())
+}
+
+#[test]
+fn a_key_that_does_not_fit_is_told_in_hexadecimal(rt: HostRuntime) -> Result<(), Fail> {
+    let key = Bytes::from_slice(rt.alloc(), b"\x01\x81\xFF\x0A")?;
+    let reply = Reply::Checked(Verdict::Unsound {
+        key,
+        stored: None,
+        due: None,
+    });
+    let text = write_reply(rt.alloc(), &reply)?;
+    assert_eq!(rt; text.as_slice(), b"unsound 0181ff0a\n".as_slice());
     Ok(())
 }
