@@ -262,4 +262,5 @@ def main():
     print(f"{runs} runs of {commands} commands: no difference")
 
 
-main()
+if __name__ == "__main__":
+    main()

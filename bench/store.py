@@ -79,4 +79,5 @@ def main():
               f"an edit of one record {edit * 1e3:.2f} ms, in a store of 20 records {few * 1e3:.2f} ms")
 
 
-main()
+if __name__ == "__main__":
+    main()
